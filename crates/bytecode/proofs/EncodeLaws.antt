@@ -1,0 +1,49 @@
+-- What a packed field or token tells, and what encode's answer is, from its fault.
+-- Assumes nothing.
+use Prim.Native.Nat.{ℕ, _<_, _≤_}
+use mathlib.Core.Bool.{Bool, true, false}
+use mathlib.Core.List.{List, _++_}
+use mathlib.Core.Path.{_≡_, refl, sym, _∙_}
+use native.Mathlib.Omega.{arith}
+use lib.ListN.{length, drop}
+use borrow.Author.Tests.{lt-ltb, le-ltb}
+use Rattle.bytecode.specs.Decode.{refusal, noRefusal}
+use Rattle.bytecode.specs.Encode.{packed, packedToken, isEncodable, tokenFields, tokenBytes, encodeFault, encodeOf, afterEncode, Encodes}
+use Rattle.bytecode.specs.declared.fields.Fields.{Fields}
+use Rattle.bytecode.specs.declared.pack.Packed.the-variants.{Field, Unfit}
+use Rattle.bytecode.specs.declared.pack.PackedToken.the-variants.{Fields as AllFields, Unfit as NoFields}
+use Rattle.bytecode.specs.declared.record.Token.{Token}
+use Rattle.bytecode.specs.declared.answers.Encoded.the-variants.{Written, Refused}
+
+pub unfit : (b : Bool) (f : ℕ) → packed b f ≡ Unfit → b ≡ false
+unfit true f e = let z : _≡_ {A = ℕ} 0 1 = cc in absurd (omega arith)
+unfit false f e = refl
+
+pub field : (b : Bool) (f g : ℕ) → packed b f ≡ Field g → (b ≡ true) × (f ≡ g)
+field true f g e = (refl, cc)
+field false f g e = let z : _≡_ {A = ℕ} 0 1 = cc in absurd (omega arith)
+
+pub unfit-token : (b : Bool) (f : Fields) → packedToken b f ≡ NoFields → b ≡ false
+unfit-token true f e = let z : _≡_ {A = ℕ} 0 1 = cc in absurd (omega arith)
+unfit-token false f e = refl
+
+pub token-fields : (b : Bool) (f g : Fields) → packedToken b f ≡ AllFields g → (b ≡ true) × (f ≡ g)
+token-fields true f g e = (refl, cc)
+token-fields false f g e = let z : _≡_ {A = ℕ} 0 1 = cc in absurd (omega arith)
+
+module _ (t : Token) (buffer : List ℕ) where
+  pub not-encodable : isEncodable t ≡ false → Encodes t buffer buffer (Refused (refusal 25 0 0))
+  unfolding encodeFault encodeOf afterEncode
+  not-encodable e = record { answer = simp e; numbers = simp e; buffer = simp e }
+
+  pub too-short : isEncodable t ≡ true → length buffer < 24 → Encodes t buffer buffer (Refused (refusal 23 0 0))
+  unfolding encodeFault encodeOf afterEncode
+  too-short e h =
+      let l = lt-ltb (length buffer) 24 h in
+      record { answer = simp (e, l); numbers = simp (e, l); buffer = simp (e, l) }
+
+  pub written : isEncodable t ≡ true → 24 ≤ length buffer → Encodes t buffer (tokenBytes t ++ drop 24 buffer) Written
+  unfolding encodeFault encodeOf afterEncode
+  written e h =
+      let l = le-ltb (length buffer) 24 h in
+      record { answer = simp (e, l); numbers = simp (e, l); buffer = simp (e, l) }

@@ -1,0 +1,4 @@
+pub mod DecodeLaws
+pub mod EncodeLaws
+pub mod Every
+pub mod Shifts

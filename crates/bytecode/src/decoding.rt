@@ -1,0 +1,127 @@
+// Decode: a record from 24 bytes, or the first fault.
+ghost use mathlib.Core.Path.{_≡_};
+ghost use Rattle.bytecode.specs.Decode.{Decodes, tokenFault, unusedNotZero, undefinedBitSet, unusedPart, undefinedPart, lowestPart, refusal};
+ghost use Rattle.bytecode.specs.Records.{tokenOf};
+use crate::answers::Decoded;
+use crate::answers::Refusal;
+use crate::fields;
+use crate::fields::Fields;
+use crate::layout;
+use crate::opcodes;
+use crate::opcodes::Shape;
+use crate::record::Token;
+use crate::unpack;
+
+pub fn decode(bytes: &[u8]) -> Decoded
+    ensures { λ r. ⌜ Decodes (now (bytes .entry)) r ⌝ }
+{
+    if bytes.len() != 24 {
+        return Decoded::Refused(refused(24, 0));
+    }
+    let f = fields::read_fields(bytes);
+    let shape = opcodes::shape_of(f.opcode);
+    let fault = fault_of(shape, f);
+    if fault.number != 0 {
+        return Decoded::Refused(fault);
+    }
+    Decoded::Token(token_of(shape, f))
+}
+
+fn token_of(shape: Shape, f: Fields) -> Token
+    ensures { λ r. ⌜ r ≡ tokenOf shape f ⌝ }
+{
+    let shape1 = shape.source1;
+    let shape2 = shape.source2;
+    let destination = unpack::unpack_destination(shape.destination, f.destination);
+    let source1 = unpack::unpack_operand(shape1, f.source1);
+    let source2 = unpack::unpack_operand(shape2, f.source2);
+    Token {
+        opcode: f.opcode,
+        destination,
+        source1,
+        source2,
+    }
+}
+
+// The first fault of a token's fields; number 0 where there is none.
+fn fault_of(shape: Shape, f: Fields) -> Refusal
+    ensures { λ r. ⌜ r ≡ tokenFault shape f ⌝ }
+{
+    if !shape.listed {
+        return refused(9, 0);
+    }
+    let unused = unused_part(shape, f);
+    if unused != 0 {
+        return refused(12, unused);
+    }
+    let undefined = undefined_part(shape, f);
+    if undefined != 0 {
+        return refused(13, undefined);
+    }
+    refused(0, 0)
+}
+
+// The lowest part that is unused and not 0, or 0.
+fn unused_part(shape: Shape, f: Fields) -> u8
+    ensures { λ r. ⌜ r ≡ unusedPart shape f ⌝ }
+{
+    let shape1 = shape.source1;
+    let shape2 = shape.source2;
+    lowest(
+        unused_not_zero(layout::destination_bits(shape.destination), f.destination),
+        unused_not_zero(layout::operand_bits(shape1), f.source1),
+        unused_not_zero(layout::operand_bits(shape2), f.source2),
+    )
+}
+
+// The lowest part that is used and has an undefined bit set, or 0.
+fn undefined_part(shape: Shape, f: Fields) -> u8
+    ensures { λ r. ⌜ r ≡ undefinedPart shape f ⌝ }
+{
+    let shape1 = shape.source1;
+    let shape2 = shape.source2;
+    lowest(
+        undefined_bit_set(layout::destination_bits(shape.destination), f.destination),
+        undefined_bit_set(layout::operand_bits(shape1), f.source1),
+        undefined_bit_set(layout::operand_bits(shape2), f.source2),
+    )
+}
+
+// A field with no defined bits is unused, and must be 0.
+fn unused_not_zero(defined: u64, field: u64) -> bool
+    ensures { λ r. ⌜ r ≡ unusedNotZero defined field ⌝ }
+{
+    (defined == 0) & layout::is_stray(defined, field)
+}
+
+fn undefined_bit_set(defined: u64, field: u64) -> bool
+    ensures { λ r. ⌜ r ≡ undefinedBitSet defined field ⌝ }
+{
+    (defined != 0) & layout::is_stray(defined, field)
+}
+
+// The lowest part at fault, 0 where none is: 1 the destination, 2 source 1, 3 source 2.
+fn lowest(destination: bool, source1: bool, source2: bool) -> u8
+    ensures { λ r. ⌜ r ≡ lowestPart destination source1 source2 ⌝ }
+{
+    if destination {
+        1
+    } else if source1 {
+        2
+    } else if source2 {
+        3
+    } else {
+        0
+    }
+}
+
+// Outside the whole check a refusal's token is 0.
+pub(crate) fn refused(number: u8, part: u8) -> Refusal
+    ensures { λ r. ⌜ r ≡ refusal number 0 part ⌝ }
+{
+    Refusal {
+        number,
+        token: 0,
+        part,
+    }
+}

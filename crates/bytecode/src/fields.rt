@@ -1,0 +1,87 @@
+// The four fields of a token as numbers, read from its bytes and written to them.
+ghost use mathlib.Core.Path.{_≡_};
+ghost use Prim.Native.Nat.{_+_, _*_, _≤_, _<_, _^_};
+ghost use mathlib.Core.List.{_++_};
+ghost use lib.ListN.{length, drop};
+ghost use Rattle.bytecode.specs.Layout.{wordAt, longAt};
+ghost use Rattle.bytecode.specs.Fields.{fieldsOf, bytesOf};
+
+pub struct Fields {
+    pub opcode: u32,
+    pub destination: u64,
+    pub source1: u64,
+    pub source2: u64,
+}
+
+pub(crate) fn read_fields(bytes: &[u8]) -> Fields
+    requires { ⌜ 24 ≤ length (now bytes) ⌝ }
+    ensures { λ r. ⌜ r ≡ fieldsOf (now (bytes .entry)) ⌝ }
+{
+    let opcode = word_at(bytes, 0) as u32;
+    let destination = word_at(bytes, 4);
+    let source1 = long_at(bytes, 8);
+    let source2 = long_at(bytes, 16);
+    Fields {
+        opcode,
+        destination,
+        source1,
+        source2,
+    }
+}
+
+fn long_at(bytes: &[u8], at: usize) -> u64
+    requires { ⌜ at + 8 ≤ length (now bytes) ⌝ }
+    ensures { λ r. ⌜ r ≡ longAt (now (bytes .entry)) at ⌝ }
+{
+    word_at(bytes, at) + 0x1_0000_0000 * word_at(bytes, at + 4)
+}
+
+fn word_at(bytes: &[u8], at: usize) -> u64
+    requires { ⌜ at + 4 ≤ length (now bytes) ⌝ }
+    ensures { λ r. ⌜ (r ≡ wordAt (now (bytes .entry)) at) × (r < 2 ^ 32) ⌝ }
+{
+    word(bytes[at], bytes[at + 1], bytes[at + 2], bytes[at + 3])
+}
+
+fn word(a: u8, b: u8, c: u8, d: u8) -> u64
+    ensures { λ r. ⌜ (r ≡ a + 256 * b + 65536 * c + 16777216 * d) × (r < 2 ^ 32) ⌝ }
+{
+    a as u64 + 256 * b as u64 + 65536 * c as u64 + 16777216 * d as u64
+}
+
+// Writes the fields to the first 24 bytes.
+pub(crate) fn write_fields(f: Fields, out: &mut [u8])
+    requires { ⌜ 24 ≤ length (now out) ⌝ }
+    ensures { λ _. ⌜ now (out .exit) ≡ bytesOf f ++ drop 24 (now (out .entry)) ⌝ }
+{
+    let opcode = f.opcode;
+    let destination = f.destination;
+    let low1 = f.source1;
+    let high1 = low1 / 0x1_0000_0000;
+    let low2 = f.source2;
+    let high2 = low2 / 0x1_0000_0000;
+    out[0] = (opcode % 256) as u8;
+    out[1] = (opcode / 256 % 256) as u8;
+    out[2] = (opcode / 65536 % 256) as u8;
+    out[3] = (opcode / 16777216 % 256) as u8;
+    out[4] = (destination % 256) as u8;
+    out[5] = (destination / 256 % 256) as u8;
+    out[6] = (destination / 65536 % 256) as u8;
+    out[7] = (destination / 16777216 % 256) as u8;
+    out[8] = (low1 % 256) as u8;
+    out[9] = (low1 / 256 % 256) as u8;
+    out[10] = (low1 / 65536 % 256) as u8;
+    out[11] = (low1 / 16777216 % 256) as u8;
+    out[12] = (high1 % 256) as u8;
+    out[13] = (high1 / 256 % 256) as u8;
+    out[14] = (high1 / 65536 % 256) as u8;
+    out[15] = (high1 / 16777216 % 256) as u8;
+    out[16] = (low2 % 256) as u8;
+    out[17] = (low2 / 256 % 256) as u8;
+    out[18] = (low2 / 65536 % 256) as u8;
+    out[19] = (low2 / 16777216 % 256) as u8;
+    out[20] = (high2 % 256) as u8;
+    out[21] = (high2 / 256 % 256) as u8;
+    out[22] = (high2 / 65536 % 256) as u8;
+    out[23] = (high2 / 16777216 % 256) as u8;
+}

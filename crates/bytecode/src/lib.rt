@@ -1,0 +1,14 @@
+// The published format of a token: opcodes and what each takes, the bits of each field, the token record; decode, encode and bias.
+pub mod answers;
+mod decoding;
+mod encoding;
+pub mod fields;
+pub mod layout;
+pub mod opcodes;
+mod pack;
+pub mod record;
+mod unpack;
+
+pub use decoding::decode;
+pub use encoding::encodable;
+pub use encoding::encode;

@@ -1,0 +1,247 @@
+// A token's fields from its record: each value is placed at its bits, unless it is wider than its place.
+ghost use mathlib.Core.Path.{_≡_};
+ghost use Prim.Native.Nat.{_<_};
+ghost use lib.Dec.{T};
+ghost use Rattle.bytecode.specs.Encode.{packed, unsigned, isSignedByte, registerFits, registerField, destinationFits, destinationField, sourceFits, sourceField, Settings, settingsField, samplerFits, samplerField, operandFits, operandField, isEncodable, tokenFields, packedToken};
+use crate::fields::Fields;
+use crate::layout;
+use crate::opcodes;
+use crate::opcodes::OperandShape;
+use crate::record::Destination;
+use crate::record::MaskedRegister;
+use crate::record::Operand;
+use crate::record::Sampler;
+use crate::record::Token;
+
+// A field, or none where a value is too wide or an operand is not of the opcode's shape.
+pub(crate) enum Packed {
+    Field(u64),
+    Unfit,
+}
+
+// The fields of a token, or none where the record is not encodable.
+pub(crate) enum PackedToken {
+    Fields(Fields),
+    Unfit,
+}
+
+pub(crate) fn pack_token(token: Token) -> PackedToken
+    ensures { λ r. ⌜ r ≡ packedToken (isEncodable token) (tokenFields token) ⌝ }
+{
+    let shape = opcodes::shape_of(token.opcode);
+    if !shape.listed {
+        return PackedToken::Unfit;
+    }
+    let shape1 = shape.source1;
+    let shape2 = shape.source2;
+    let masked = token.destination;
+    let operand1 = token.source1;
+    let operand2 = token.source2;
+    let Packed::Field(destination) = pack_destination(shape.destination, masked) else {
+        return PackedToken::Unfit;
+    };
+    let Packed::Field(source1) = pack_operand(shape1, operand1) else {
+        return PackedToken::Unfit;
+    };
+    let Packed::Field(source2) = pack_operand(shape2, operand2) else {
+        return PackedToken::Unfit;
+    };
+    PackedToken::Fields(Fields {
+        opcode: token.opcode,
+        destination,
+        source1,
+        source2,
+    })
+}
+
+pub(crate) fn pack_destination(used: bool, destination: Destination) -> Packed
+    ensures { λ r. ⌜ r ≡ packed (destinationFits used destination) (destinationField destination) ⌝ }
+{
+    match destination {
+        Destination::Unused => {
+            if used {
+                Packed::Unfit
+            } else {
+                Packed::Field(0)
+            }
+        }
+        Destination::Masked(register) => {
+            if used {
+                pack_register(register)
+            } else {
+                Packed::Unfit
+            }
+        }
+    }
+}
+
+fn pack_register(register: MaskedRegister) -> Packed
+    ensures { λ r. ⌜ r ≡ packed (registerFits register) (registerField register) ⌝ }
+{
+    if 16 <= register.mask {
+        return Packed::Unfit;
+    }
+    if 16 <= register.kind {
+        return Packed::Unfit;
+    }
+    let number = layout::placed(register.number as u64, layout::NUMBER);
+    let mask = layout::placed(register.mask as u64, layout::MASK);
+    let kind = layout::placed(register.kind as u64, layout::MASKED_KIND);
+    Packed::Field(number + mask + kind)
+}
+
+pub(crate) fn pack_operand(shape: OperandShape, operand: Operand) -> Packed
+    ensures { λ r. ⌜ r ≡ packed (operandFits shape operand) (operandField operand) ⌝ }
+{
+    match shape {
+        OperandShape::Unused => pack_nothing(operand),
+        OperandShape::Source => pack_source(operand),
+        OperandShape::Sampler => pack_sampler(operand),
+    }
+}
+
+fn pack_nothing(operand: Operand) -> Packed
+    ensures { λ r. ⌜ r ≡ packed (operandFits OperandShape.Unused operand) (operandField operand) ⌝ }
+{
+    match operand {
+        Operand::Unused => Packed::Field(0),
+        Operand::Direct(_) => Packed::Unfit,
+        Operand::Indexed(_) => Packed::Unfit,
+        Operand::Sampler(_) => Packed::Unfit,
+    }
+}
+
+fn pack_source(operand: Operand) -> Packed
+    ensures { λ r. ⌜ r ≡ packed (operandFits OperandShape.Source operand) (operandField operand) ⌝ }
+{
+    match operand {
+        Operand::Unused => Packed::Unfit,
+        Operand::Direct(s) => pack_values(
+            s.number,
+            s.offset,
+            s.swizzle,
+            s.kind,
+            s.index_kind,
+            s.component,
+            0,
+        ),
+        Operand::Indexed(s) => pack_values(
+            s.number,
+            s.offset,
+            s.swizzle,
+            s.kind,
+            s.index_kind,
+            s.component,
+            1,
+        ),
+        Operand::Sampler(_) => Packed::Unfit,
+    }
+}
+
+fn pack_sampler(operand: Operand) -> Packed
+    ensures { λ r. ⌜ r ≡ packed (operandFits OperandShape.Sampler operand) (operandField operand) ⌝ }
+{
+    match operand {
+        Operand::Unused => Packed::Unfit,
+        Operand::Direct(_) => Packed::Unfit,
+        Operand::Indexed(_) => Packed::Unfit,
+        Operand::Sampler(s) => pack_settings(s),
+    }
+}
+
+// The values of a source; indirect is D.
+fn pack_values(
+    number: u16,
+    offset: u8,
+    swizzle: u8,
+    kind: u8,
+    index_kind: u8,
+    component: u8,
+    indirect: u64,
+) -> Packed
+    requires { ⌜ indirect < 2 ⌝ }
+    ensures { λ r. ⌜ r ≡ packed (sourceFits number offset swizzle kind «index_kind» component) (sourceField number offset swizzle kind «index_kind» component indirect) ⌝ }
+{
+    if 16 <= kind {
+        return Packed::Unfit;
+    }
+    if 16 <= index_kind {
+        return Packed::Unfit;
+    }
+    if 4 <= component {
+        return Packed::Unfit;
+    }
+    let n = layout::placed(number as u64, layout::NUMBER);
+    let o = layout::placed(offset as u64, layout::OFFSET);
+    let s = layout::placed(swizzle as u64, layout::SWIZZLE);
+    let t = layout::placed(kind as u64, layout::KIND);
+    let i = layout::placed(index_kind as u64, layout::INDEX_KIND);
+    let q = layout::placed(component as u64, layout::COMPONENT);
+    let d = layout::placed(indirect, layout::INDIRECT);
+    Packed::Field(n + o + s + t + i + q + d)
+}
+
+fn pack_settings(sampler: Sampler) -> Packed
+    ensures { λ r. ⌜ r ≡ packed (samplerFits sampler) (samplerField sampler) ⌝ }
+{
+    if 16 <= sampler.kind {
+        return Packed::Unfit;
+    }
+    if 16 <= sampler.dimension {
+        return Packed::Unfit;
+    }
+    if 16 <= sampler.special {
+        return Packed::Unfit;
+    }
+    if 16 <= sampler.wrap {
+        return Packed::Unfit;
+    }
+    if 16 <= sampler.mipmap {
+        return Packed::Unfit;
+    }
+    if 16 <= sampler.filter {
+        return Packed::Unfit;
+    }
+    let bias = unsigned_byte(sampler.bias);
+    Packed::Field(settings_field(
+        sampler.number,
+        bias,
+        sampler.kind,
+        sampler.dimension,
+        sampler.special,
+        sampler.wrap,
+        sampler.mipmap,
+        sampler.filter,
+    ))
+}
+
+fn settings_field(
+    number: u16,
+    bias: u8,
+    kind: u8,
+    dimension: u8,
+    special: u8,
+    wrap: u8,
+    mipmap: u8,
+    filter: u8,
+) -> u64
+    requires { ⌜ Settings kind dimension special wrap mipmap filter ⌝ }
+    ensures { λ r. ⌜ r ≡ settingsField number bias kind dimension special wrap mipmap filter ⌝ }
+{
+    let n = layout::placed(number as u64, layout::NUMBER);
+    let b = layout::placed(bias as u64, layout::BIAS);
+    let t = layout::placed(kind as u64, layout::KIND);
+    let d = layout::placed(dimension as u64, layout::DIMENSION);
+    let s = layout::placed(special as u64, layout::SPECIAL);
+    let w = layout::placed(wrap as u64, layout::WRAP);
+    let m = layout::placed(mipmap as u64, layout::MIPMAP);
+    let f = layout::placed(filter as u64, layout::FILTER);
+    n + b + t + d + s + w + m + f
+}
+
+// A signed byte as the byte that says it, by two's complement.
+fn unsigned_byte(value: i8) -> u8
+    ensures { λ r. ⌜ (r ≡ unsigned value) × T (isSignedByte value) ⌝ }
+{
+    ((value as i16 + 256) % 256) as u8
+}
