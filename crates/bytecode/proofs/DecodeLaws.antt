@@ -1,19 +1,21 @@
 -- What decode's answer is, from its fault.
 -- Assumes nothing.
 use Prim.Native.Nat.{ℕ}
-use mathlib.Core.Bool.{Bool, true, false, not, cond}
+use mathlib.Core.Bool.{Bool, true, false, not, cond, _&&_}
 use mathlib.Core.List.{List}
 use mathlib.Core.Path.{_≡_, refl, _∙_, sym, ap}
 use native.Mathlib.Omega.{arith}
 use lib.Dec.{eqb}
 use lib.ListN.{length}
-use borrow.Author.Tests.{eq-eqb, ne-eqb}
+use borrow.Author.Tests.{eq-eqb, ne-eqb, eqb-true, not-false}
 use Rattle.bytecode.specs.Opcodes.{shapeOf}
 use Rattle.bytecode.specs.Fields.{fieldsOf}
+use Rattle.bytecode.specs.Layout.{destinationBits, operandBits, isStray}
 use Rattle.bytecode.specs.Records.{tokenOf}
-use Rattle.bytecode.specs.Decode.{refusal, noRefusal, unusedPart, undefinedPart, tokenFault, decodeFault, decodeOf, Decodes}
+use Rattle.bytecode.specs.Decode.{refusal, noRefusal, lowestPart, unusedPart, undefinedPart, tokenFault, decodeFault, decodeOf, Decodes}
 use Rattle.bytecode.specs.declared.opcodes.Shape.{Shape}
 use Rattle.bytecode.specs.declared.fields.Fields.{Fields}
+use Rattle.bytecode.specs.declared.record.Token.{Token}
 use Rattle.bytecode.specs.declared.answers.Refusal.{Refusal}
 use Rattle.bytecode.specs.declared.answers.Decoded.the-variants.{Token as Accepted, Refused}
 
@@ -55,3 +57,75 @@ module _ (s : List ℕ) where
     no-faults e =
         let z = fault ∙ no-fault (shapeOf (fieldsOf s .opcode)) (fieldsOf s) e in
         record { answer = sym (rw z); numbers = sym z }
+
+-- ---- what a token without a fault is
+
+lowest-none : (a b c : Bool) → lowestPart a b c ≡ 0 → (a ≡ false) × (b ≡ false) × (c ≡ false)
+lowest-none true b c e = absurd (omega (arith, e))
+lowest-none false true c e = absurd (omega (arith, e))
+lowest-none false false true e = absurd (omega (arith, e))
+lowest-none false false false e = (refl, refl, refl)
+
+-- a field is neither unused and not 0 nor used and with an undefined bit
+one-clean : (b s : Bool) → (b && s) ≡ false → (not b && s) ≡ false → s ≡ false
+one-clean true s e f = e
+one-clean false s e f = f
+
+both-clean : (b s : Bool) → s ≡ false → ((b && s) ≡ false) × ((not b && s) ≡ false)
+both-clean true s e = (e, refl)
+both-clean false s e = (refl, e)
+
+-- the opcode is listed and no field has a stray bit
+pub record Clean (s : Shape) (f : Fields) : Type 0 where
+  pub listed : s .listed ≡ true
+  pub destination : isStray (destinationBits (s .destination)) (f .destination) ≡ false
+  pub source1 : isStray (operandBits (s .source1)) (f .source1) ≡ false
+  pub source2 : isStray (operandBits (s .source2)) (f .source2) ≡ false
+
+chain-none : (a b c : Bool) (p q : ℕ) → chain a b c p q ≡ noRefusal → (a ≡ false) × (b ≡ false) × (c ≡ false)
+unfolding chain
+chain-none true b c p q e = absurd (omega (arith, ap (λ r. r .number) e))
+chain-none false true c p q e = absurd (omega (arith, ap (λ r. r .number) e))
+chain-none false false true p q e = absurd (omega (arith, ap (λ r. r .number) e))
+chain-none false false false p q e = (refl, refl, refl)
+
+module _ (s : Shape) (f : Fields) where
+  pub clean : tokenFault s f ≡ noRefusal → Clean s f
+  unfolding tokenFault chain unusedPart undefinedPart
+  clean e =
+      let (l, u, v) = chain-none (not (s .listed)) (not (eqb (unusedPart s f) 0)) (not (eqb (undefinedPart s f) 0)) (unusedPart s f) (undefinedPart s f) e in
+      let (ud, u1, u2) = lowest-none _ _ _ (eqb-true (unusedPart s f) 0 (not-false _ u)) in
+      let (vd, v1, v2) = lowest-none _ _ _ (eqb-true (undefinedPart s f) 0 (not-false _ v)) in
+      record {
+        listed = not-false (s .listed) l;
+        destination = one-clean (eqb (destinationBits (s .destination)) 0) _ ud vd;
+        source1 = one-clean (eqb (operandBits (s .source1)) 0) _ u1 v1;
+        source2 = one-clean (eqb (operandBits (s .source2)) 0) _ u2 v2;
+      }
+
+  pub clean-none : Clean s f → tokenFault s f ≡ noRefusal
+  unfolding tokenFault unusedPart undefinedPart
+  clean-none c =
+      let (ud, vd) = both-clean (eqb (destinationBits (s .destination)) 0) _ (c .destination) in
+      let (u1, v1) = both-clean (eqb (operandBits (s .source1)) 0) _ (c .source1) in
+      let (u2, v2) = both-clean (eqb (operandBits (s .source2)) 0) _ (c .source2) in
+      rw (c .listed, ud, u1, u2, vd, v1, v2)
+
+-- an accepted answer has no fault
+pub accepted : (s : List ℕ) (t : Token) → decodeOf s ≡ Accepted t
+    → (length s ≡ 24) × (tokenFault (shapeOf (fieldsOf s .opcode)) (fieldsOf s) ≡ noRefusal) × (t ≡ tokenOf (shapeOf (fieldsOf s .opcode)) (fieldsOf s))
+unfolding decodeOf decodeFault
+accepted s t e = go (eqb (length s) 24) refl e
+  where
+    go : (b : Bool) → eqb (length s) 24 ≡ b
+        → cond (eqb (cond b (tokenFault (shapeOf (fieldsOf s .opcode)) (fieldsOf s)) (refusal 24 0 0) .number) 0) (Accepted (tokenOf (shapeOf (fieldsOf s .opcode)) (fieldsOf s))) (Refused (cond b (tokenFault (shapeOf (fieldsOf s .opcode)) (fieldsOf s)) (refusal 24 0 0))) ≡ Accepted t
+        → (length s ≡ 24) × (tokenFault (shapeOf (fieldsOf s .opcode)) (fieldsOf s) ≡ noRefusal) × (t ≡ tokenOf (shapeOf (fieldsOf s .opcode)) (fieldsOf s))
+    go false l h = let z : _≡_ {A = ℕ} 0 1 = cc in absurd (omega arith)
+    go true l h = within (eqb (tokenFault (shapeOf (fieldsOf s .opcode)) (fieldsOf s) .number) 0) refl h
+      where
+        within : (b : Bool) → eqb (tokenFault (shapeOf (fieldsOf s .opcode)) (fieldsOf s) .number) 0 ≡ b
+            → cond b (Accepted (tokenOf (shapeOf (fieldsOf s .opcode)) (fieldsOf s))) (Refused (tokenFault (shapeOf (fieldsOf s .opcode)) (fieldsOf s))) ≡ Accepted t
+            → (length s ≡ 24) × (tokenFault (shapeOf (fieldsOf s .opcode)) (fieldsOf s) ≡ noRefusal) × (t ≡ tokenOf (shapeOf (fieldsOf s .opcode)) (fieldsOf s))
+        within false n k = let z : _≡_ {A = ℕ} 0 1 = cc in absurd (omega arith)
+        within true n k =
+            (eqb-true (length s) 24 l, no-fault (shapeOf (fieldsOf s .opcode)) (fieldsOf s) (eqb-true _ 0 n), cc)

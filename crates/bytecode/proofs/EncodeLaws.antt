@@ -1,12 +1,13 @@
 -- What a packed field or token tells, and what encode's answer is, from its fault.
 -- Assumes nothing.
 use Prim.Native.Nat.{ℕ, _<_, _≤_}
-use mathlib.Core.Bool.{Bool, true, false}
+use mathlib.Core.Bool.{Bool, true, false, cond}
 use mathlib.Core.List.{List, _++_}
 use mathlib.Core.Path.{_≡_, refl, sym, _∙_}
 use native.Mathlib.Omega.{arith}
+use lib.Dec.{eqb, ltb}
 use lib.ListN.{length, drop}
-use borrow.Author.Tests.{lt-ltb, le-ltb}
+use borrow.Author.Tests.{lt-ltb, le-ltb, ltb-false}
 use Rattle.bytecode.specs.Decode.{refusal, noRefusal}
 use Rattle.bytecode.specs.Encode.{packed, packedToken, isEncodable, tokenFields, tokenBytes, encodeFault, encodeOf, afterEncode, Encodes}
 use Rattle.bytecode.specs.declared.fields.Fields.{Fields}
@@ -47,3 +48,20 @@ module _ (t : Token) (buffer : List ℕ) where
   written e h =
       let l = le-ltb (length buffer) 24 h in
       record { answer = simp (e, l); numbers = simp (e, l); buffer = simp (e, l) }
+
+  -- what was written was encodable and had room
+  pub was-written : encodeOf t buffer ≡ Written → (isEncodable t ≡ true) × (24 ≤ length buffer)
+  unfolding encodeFault encodeOf
+  was-written e = go (isEncodable t) refl e
+    where
+      go : (b : Bool) → isEncodable t ≡ b
+          → cond (eqb (cond b (cond (ltb (length buffer) 24) (refusal 23 0 0) noRefusal) (refusal 25 0 0) .number) 0) Written (Refused (cond b (cond (ltb (length buffer) 24) (refusal 23 0 0) noRefusal) (refusal 25 0 0))) ≡ Written
+          → (isEncodable t ≡ true) × (24 ≤ length buffer)
+      go false i h = let z : _≡_ {A = ℕ} 0 1 = cc in absurd (omega arith)
+      go true i h = within (ltb (length buffer) 24) refl h
+        where
+          within : (b : Bool) → ltb (length buffer) 24 ≡ b
+              → cond (eqb (cond b (refusal 23 0 0) noRefusal .number) 0) Written (Refused (cond b (refusal 23 0 0) noRefusal)) ≡ Written
+              → (isEncodable t ≡ true) × (24 ≤ length buffer)
+          within true l k = let z : _≡_ {A = ℕ} 0 1 = cc in absurd (omega arith)
+          within false l k = (i, ltb-false (length buffer) 24 l)

@@ -1,4 +1,13 @@
 pub mod DecodeLaws
 pub mod EncodeLaws
 pub mod Every
+pub mod Floats
+pub mod Listed
+pub mod RegisterAgain
+pub mod RoundTrip
+pub mod Rows
+pub mod SamplerAgain
 pub mod Shifts
+pub mod SourceAgain
+pub mod Stray
+pub mod Words

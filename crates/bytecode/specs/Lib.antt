@@ -1,6 +1,9 @@
+pub mod Bias
 pub mod Decode
 pub mod Encode
 pub mod Fields
 pub mod Layout
 pub mod Opcodes
 pub mod Records
+pub mod RoundTrip
+pub mod Swizzles

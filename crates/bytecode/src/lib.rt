@@ -1,5 +1,6 @@
 // The published format of a token: opcodes and what each takes, the bits of each field, the token record; decode, encode and bias.
 pub mod answers;
+mod biases;
 mod decoding;
 mod encoding;
 pub mod fields;
@@ -7,8 +8,11 @@ pub mod layout;
 pub mod opcodes;
 mod pack;
 pub mod record;
+mod swizzles;
 mod unpack;
 
+pub use biases::bias;
 pub use decoding::decode;
 pub use encoding::encodable;
 pub use encoding::encode;
+pub use swizzles::components;

@@ -1,0 +1,145 @@
+-- The round trip, both ways: bytes that decode does not refuse encode to themselves, and records that encode does not refuse decode to
+-- themselves.
+-- Assumes nothing.
+use Prim.Native.Nat.{ℕ, _^_, _≤_, _<_}
+use mathlib.Core.Bool.{Bool, true, false, _&&_}
+use mathlib.Core.List.{List, _++_}
+use mathlib.Core.Path.{_≡_, refl, _∙_, sym, ap}
+use native.Mathlib.Decide.{decLt}
+use native.Mathlib.Omega.{arith}
+use lib.Bits.{and-zero-r}
+use lib.Dec.{T, lit<}
+use lib.ListN.{length, take, drop}
+use lib.Seq.{take-at}
+use lib.Pow.{areBytes}
+use Rattle.bytecode.specs.Opcodes.{shapeOf}
+use Rattle.bytecode.specs.Layout.{destinationBits, operandBits, isStray}
+use Rattle.bytecode.specs.Fields.{fieldsOf, bytesOf}
+use Rattle.bytecode.specs.Records.{destinationOf, operandOf, tokenOf}
+use Rattle.bytecode.specs.Decode.{noRefusal, tokenFault, decodeOf}
+use Rattle.bytecode.specs.Encode.{destinationFits, destinationField, operandFits, operandField, isEncodable, tokenFields, tokenBytes, encodeFault, encodeOf, afterEncode}
+use Rattle.bytecode.specs.RoundTrip.{RoundTrip}
+use Rattle.bytecode.specs.declared.opcodes.OperandShape.{OperandShape}
+use Rattle.bytecode.specs.declared.opcodes.OperandShape.the-variants.{Unused as NoField, Source as SourceField, Sampler as SamplerField}
+use Rattle.bytecode.specs.declared.opcodes.Shape.{Shape}
+use Rattle.bytecode.specs.declared.fields.Fields.{Fields}
+use Rattle.bytecode.specs.declared.record.Destination.{Destination}
+use Rattle.bytecode.specs.declared.record.Destination.the-variants.{Unused as NoDestination, Masked}
+use Rattle.bytecode.specs.declared.record.Operand.{Operand}
+use Rattle.bytecode.specs.declared.record.Operand.the-variants.{Unused as NoOperand, Direct, Indexed, Sampler as Sampled}
+use Rattle.bytecode.specs.declared.record.Token.{Token}
+use Rattle.bytecode.specs.declared.answers.Decoded.the-variants.{Token as Accepted}
+use Rattle.bytecode.specs.declared.answers.Encoded.the-variants.{Written}
+use Rattle.bytecode.proofs.DecodeLaws.{Clean, clean, clean-none, accepted, no-faults}
+use Rattle.bytecode.proofs.EncodeLaws.{written, was-written}
+use Rattle.bytecode.proofs.RegisterAgain.{register-fits, register-again, register-of, register-clean, register-small}
+use Rattle.bytecode.proofs.SourceAgain.{source-fits, source-again, direct-of, indexed-of, source-clean, source-small}
+use Rattle.bytecode.proofs.SamplerAgain.{sampler-fits, sampler-again, sampler-of, sampler-clean, sampler-small}
+use Rattle.bytecode.proofs.Stray.{not-stray, left, right}
+use Rattle.bytecode.proofs.Words.{bytes-again, fields-again}
+use Rattle.bytecode.proofs.Listed.{listed-below}
+
+-- ---- from bytes
+
+-- an unused field without a stray bit is 0
+unused-zero : (w : ℕ) → isStray 0 w ≡ false → 0 ≡ w
+unused-zero w e = sym (and-zero-r w) ∙ not-stray 0 w e
+
+destination-again : (used : Bool) (w : ℕ) → isStray (destinationBits used) w ≡ false
+    → (destinationFits used (destinationOf used w) ≡ true) × (destinationField (destinationOf used w) ≡ w)
+destination-again true w e = (register-fits w, register-again w e)
+destination-again false w e = (refl, unused-zero w e)
+
+operand-again : (shape : OperandShape) (w : ℕ) → isStray (operandBits shape) w ≡ false
+    → (operandFits shape (operandOf shape w) ≡ true) × (operandField (operandOf shape w) ≡ w)
+operand-again NoField w e = (refl, unused-zero w e)
+operand-again SourceField w e = (source-fits w, source-again w e)
+operand-again SamplerField w e = (sampler-fits w, sampler-again w e)
+
+-- the record of clean fields is encodable, and makes the fields again
+module _ (f : Fields) (c : Clean (shapeOf (f .opcode)) f) where
+  d : (destinationFits (shapeOf (f .opcode) .destination) (destinationOf (shapeOf (f .opcode) .destination) (f .destination)) ≡ true) × (destinationField (destinationOf (shapeOf (f .opcode) .destination) (f .destination)) ≡ f .destination)
+  d = destination-again (shapeOf (f .opcode) .destination) (f .destination) (c .destination)
+
+  a : (operandFits (shapeOf (f .opcode) .source1) (operandOf (shapeOf (f .opcode) .source1) (f .source1)) ≡ true) × (operandField (operandOf (shapeOf (f .opcode) .source1) (f .source1)) ≡ f .source1)
+  a = operand-again (shapeOf (f .opcode) .source1) (f .source1) (c .source1)
+
+  b : (operandFits (shapeOf (f .opcode) .source2) (operandOf (shapeOf (f .opcode) .source2) (f .source2)) ≡ true) × (operandField (operandOf (shapeOf (f .opcode) .source2) (f .source2)) ≡ f .source2)
+  b = operand-again (shapeOf (f .opcode) .source2) (f .source2) (c .source2)
+
+  token-encodable : isEncodable (tokenOf (shapeOf (f .opcode)) f) ≡ true
+  unfolding isEncodable tokenOf
+  token-encodable = rw (c .listed, d .0, a .0, b .0)
+
+  token-fields-again : tokenFields (tokenOf (shapeOf (f .opcode)) f) ≡ f
+  unfolding tokenOf
+  token-fields-again = rw (d .1, a .1, b .1)
+
+from-bytes : (s : List ℕ) (t : Token) → T (areBytes s) → decodeOf s ≡ Accepted t → (isEncodable t ≡ true) × (tokenBytes t ≡ s)
+from-bytes s t h e =
+    let (l, n, m) = accepted s t e in
+    let c = clean (shapeOf (fieldsOf s .opcode)) (fieldsOf s) n in
+    (ap isEncodable m ∙ token-encodable (fieldsOf s) c, ap tokenBytes m ∙ ap bytesOf (token-fields-again (fieldsOf s) c) ∙ bytes-again s l h)
+
+-- ---- from a record
+
+-- a packed operand has no stray bit, makes the operand again and has no more bits than its field
+destination-of : (used : Bool) (r : Destination) → destinationFits used r ≡ true
+    → (isStray (destinationBits used) (destinationField r) ≡ false) × (destinationOf used (destinationField r) ≡ r) × (destinationField r < 2 ^ 32)
+destination-of true NoDestination e = absurd (mathlib.Core.Bool.false≢true e)
+destination-of true (Masked r) e = (register-clean r e, ap Masked (register-of r e), register-small r e)
+destination-of false NoDestination e = (refl, refl, lit< tt)
+destination-of false (Masked r) e = absurd (mathlib.Core.Bool.false≢true e)
+
+operand-of : (shape : OperandShape) (o : Operand) → operandFits shape o ≡ true
+    → (isStray (operandBits shape) (operandField o) ≡ false) × (operandOf shape (operandField o) ≡ o) × (operandField o < 2 ^ 64)
+operand-of NoField NoOperand e = (refl, refl, lit< tt)
+operand-of NoField (Direct s) e = absurd (mathlib.Core.Bool.false≢true e)
+operand-of NoField (Indexed s) e = absurd (mathlib.Core.Bool.false≢true e)
+operand-of NoField (Sampled s) e = absurd (mathlib.Core.Bool.false≢true e)
+operand-of SourceField NoOperand e = absurd (mathlib.Core.Bool.false≢true e)
+operand-of SourceField (Direct s) e =
+    (source-clean (s .number) (s .offset) (s .swizzle) (s .kind) (s .«index_kind») (s .component) 0 e (lit< tt), direct-of s e, source-small (s .number) (s .offset) (s .swizzle) (s .kind) (s .«index_kind») (s .component) 0 e (lit< tt))
+operand-of SourceField (Indexed s) e =
+    (source-clean (s .number) (s .offset) (s .swizzle) (s .kind) (s .«index_kind») (s .component) 1 e (lit< tt), indexed-of s e, source-small (s .number) (s .offset) (s .swizzle) (s .kind) (s .«index_kind») (s .component) 1 e (lit< tt))
+operand-of SourceField (Sampled s) e = absurd (mathlib.Core.Bool.false≢true e)
+operand-of SamplerField NoOperand e = absurd (mathlib.Core.Bool.false≢true e)
+operand-of SamplerField (Direct s) e = absurd (mathlib.Core.Bool.false≢true e)
+operand-of SamplerField (Indexed s) e = absurd (mathlib.Core.Bool.false≢true e)
+operand-of SamplerField (Sampled s) e = (sampler-clean s e, ap Sampled (sampler-of s e), sampler-small s e)
+
+-- the three operands again make the record again
+same : (t : Token)
+    → destinationOf (shapeOf (t .opcode) .destination) (destinationField (t .destination)) ≡ t .destination
+    → operandOf (shapeOf (t .opcode) .source1) (operandField (t .source1)) ≡ t .source1
+    → operandOf (shapeOf (t .opcode) .source2) (operandField (t .source2)) ≡ t .source2
+    → tokenOf (shapeOf (t .opcode)) (tokenFields t) ≡ t
+unfolding tokenOf
+same t d a b = rw (d, a, b)
+
+from-record : (t : Token) → isEncodable t ≡ true → decodeOf (tokenBytes t) ≡ Accepted t
+unfolding isEncodable
+from-record t e =
+    let h = shapeOf (t .opcode) in
+    let e3 = left (h .listed && destinationFits (h .destination) (t .destination) && operandFits (h .source1) (t .source1)) _ e in
+    let e2 = left (h .listed && destinationFits (h .destination) (t .destination)) _ e3 in
+    let listed = left (h .listed) _ e2 in
+    let d = destination-of (h .destination) (t .destination) (right (h .listed) _ e2) in
+    let a = operand-of (h .source1) (t .source1) (right (h .listed && destinationFits (h .destination) (t .destination)) _ e3) in
+    let b = operand-of (h .source2) (t .source2) (right (h .listed && destinationFits (h .destination) (t .destination) && operandFits (h .source1) (t .source1)) _ e) in
+    let f = fields-again (tokenFields t) (omega (arith, listed-below (t .opcode) listed)) (d .2) (a .2) (b .2) in
+    let c : Clean h (tokenFields t) = record { listed = listed; destination = d .0; source1 = a .0; source2 = b .0 } in
+    let n : tokenFault (shapeOf (fieldsOf (tokenBytes t) .opcode)) (fieldsOf (tokenBytes t)) ≡ noRefusal = ap (λ g. tokenFault (shapeOf (g .opcode)) g) f ∙ clean-none h (tokenFields t) c in
+    sym (no-faults (tokenBytes t) refl (ap (λ r. r .number) n) .answer) ∙ ap (λ g. Accepted (tokenOf (shapeOf (g .opcode)) g)) f ∙ ap Accepted (same t (d .1) (a .1) (b .1))
+
+pub round-trip : RoundTrip
+round-trip =
+    record {
+      bytes = λ s t h e buffer l.
+          let (i, q) = from-bytes s t h e in
+          let w = written t buffer i l in
+          (sym (w .answer), sym (w .buffer) ∙ ap (λ x. x ++ drop 24 buffer) q);
+      records = λ t buffer e.
+          let (i, l) = was-written t buffer e in
+          ap decodeOf (ap (take 24) (sym (written t buffer i l .buffer)) ∙ take-at (tokenBytes t) (drop 24 buffer) 24 refl) ∙ from-record t i;
+    }
