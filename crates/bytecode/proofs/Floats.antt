@@ -4,7 +4,8 @@ use mathlib.Core.Path.{_≡_, refl}
 use mathlib.Core.Bool.{Bool, true, false, _&&_, Bool·beq}
 use lib.Dec.{T, eqb, eqb→eq}
 use lib.Ieee.{Float, nan, inf, fin}
-use Rattle.bytecode.proofs.Every.{both-left, both-right, eqZ, eqZ→eq}
+use Rattle.laws.specs.Tests.{eqZ}
+use Rattle.laws.proofs.Every.{both-left, both-right, eqZ→eq}
 
 same→eq : (a b : Bool) → T (Bool·beq a b) → a ≡ b
 same→eq true true t = refl

@@ -1,6 +1,5 @@
 pub mod DecodeLaws
 pub mod EncodeLaws
-pub mod Every
 pub mod Floats
 pub mod Listed
 pub mod RegisterAgain

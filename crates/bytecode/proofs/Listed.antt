@@ -9,7 +9,7 @@ use native.Mathlib.Omega.{arith}
 use lib.Dec.{T, ltb, eqb, ltb→lt}
 use borrow.Author.Tests.{ne-eqb}
 use Rattle.bytecode.specs.Opcodes.{isIn, firstOpcodes, addedOpcodes, rowOf, shapeOfRow, shapeOf}
-use Rattle.bytecode.proofs.Every.{both-left, both-right}
+use Rattle.laws.proofs.Every.{both-left, both-right}
 
 allBelow : ℕ → List ℕ → Bool
 allBelow n [] = true

@@ -14,7 +14,8 @@ use Rattle.bytecode.specs.Records.{registerOf}
 use Rattle.bytecode.specs.Encode.{registerFits, registerField}
 use Rattle.bytecode.specs.declared.record.MaskedRegister.{MaskedRegister}
 use Rattle.bytecode.proofs.Rows.{Rising, Fit, pack, values-again}
-use Rattle.bytecode.proofs.Stray.{all-kept, none-stray, left, right}
+use Rattle.bytecode.proofs.Stray.{all-kept, none-stray}
+use Rattle.laws.proofs.Every.{left, right}
 
 rising : Rising 0 destinationRows
 rising = (lit≤ tt, (lit≤ tt, (lit≤ tt, tt)))

@@ -35,7 +35,8 @@ use Rattle.bytecode.proofs.EncodeLaws.{written, was-written}
 use Rattle.bytecode.proofs.RegisterAgain.{register-fits, register-again, register-of, register-clean, register-small}
 use Rattle.bytecode.proofs.SourceAgain.{source-fits, source-again, direct-of, indexed-of, source-clean, source-small}
 use Rattle.bytecode.proofs.SamplerAgain.{sampler-fits, sampler-again, sampler-of, sampler-clean, sampler-small}
-use Rattle.bytecode.proofs.Stray.{not-stray, left, right}
+use Rattle.bytecode.proofs.Stray.{not-stray}
+use Rattle.laws.proofs.Every.{left, right}
 use Rattle.bytecode.proofs.Words.{bytes-again, fields-again}
 use Rattle.bytecode.proofs.Listed.{listed-below}
 

@@ -14,9 +14,9 @@ use Rattle.bytecode.specs.Layout.{valueOf, definedBits, samplerRows, isS
 use Rattle.bytecode.specs.Records.{signed, samplerOf}
 use Rattle.bytecode.specs.Encode.{unsigned, isSignedByte, settingsField, samplerFits, samplerField}
 use Rattle.bytecode.specs.declared.record.Sampler.{Sampler}
-use Rattle.bytecode.proofs.Every.{below, both-left, both-right, is-true}
+use Rattle.laws.proofs.Every.{below, both-left, both-right, is-true, left, right}
 use Rattle.bytecode.proofs.Rows.{Rising, Fit, pack, values-again}
-use Rattle.bytecode.proofs.Stray.{all-kept, none-stray, left, right}
+use Rattle.bytecode.proofs.Stray.{all-kept, none-stray}
 
 -- ---- a signed byte
 

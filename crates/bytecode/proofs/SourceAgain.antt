@@ -17,7 +17,8 @@ use Rattle.bytecode.specs.declared.record.DirectSource.{DirectSource}
 use Rattle.bytecode.specs.declared.record.IndexedSource.{IndexedSource}
 use Rattle.bytecode.specs.declared.record.Operand.the-variants.{Direct, Indexed}
 use Rattle.bytecode.proofs.Rows.{Rising, Fit, pack, values, values-again}
-use Rattle.bytecode.proofs.Stray.{all-kept, none-stray, left, right}
+use Rattle.bytecode.proofs.Stray.{all-kept, none-stray}
+use Rattle.laws.proofs.Every.{left, right}
 
 rising : Rising 0 sourceRows
 rising = (lit≤ tt, (lit≤ tt, (lit≤ tt, (lit≤ tt, (lit≤ tt, (lit≤ tt, (lit≤ tt, tt)))))))

@@ -1,9 +1,9 @@
 -- A field has no stray bit exactly where it is its rows' values, packed.
 -- Assumes nothing.
 use Prim.Native.Nat.{ℕ}
-use mathlib.Core.Bool.{Bool, true, false, not, _&&_, false≢true}
+use mathlib.Core.Bool.{false, not}
 use mathlib.Core.List.{List}
-use mathlib.Core.Path.{_≡_, refl, _∙_, sym, ap}
+use mathlib.Core.Path.{_≡_, _∙_, sym, ap}
 use lib.Bits.{bitAnd}
 use lib.Dec.{eqb}
 use borrow.Author.Tests.{eq-eqb, eqb-true, not-false}
@@ -21,13 +21,3 @@ all-kept rows r w e = sym (and-rows 0 rows r w) ∙ not-stray (definedBits rows)
 pub none-stray : (rows : List Bits) (vs : List ℕ) → Rising 0 rows → Fit rows vs → isStray (definedBits rows) (pack rows vs) ≡ false
 none-stray rows vs r f =
     ap not (eq-eqb (bitAnd (pack rows vs) (definedBits rows)) (pack rows vs) (and-rows 0 rows r (pack rows vs) ∙ ap (pack rows) (values-again rows vs r f)))
-
--- ---- tests joined by &&
-
-pub left : (a b : Bool) → (a && b) ≡ true → a ≡ true
-left true b e = refl
-left false b e = e
-
-pub right : (a b : Bool) → (a && b) ≡ true → b ≡ true
-right true b e = e
-right false b e = absurd (false≢true e)

@@ -12,7 +12,7 @@ use lib.Pow.{areBytes}
 use Rattle.bytecode.specs.Layout.{wordAt, longAt, wordBytes}
 use Rattle.bytecode.specs.Fields.{fieldsOf, bytesOf}
 use Rattle.bytecode.specs.declared.fields.Fields.{Fields}
-use Rattle.bytecode.proofs.Every.{both-left, both-right}
+use Rattle.laws.proofs.Every.{both-left, both-right}
 use Rattle.bytecode.proofs.Rows.{value-is, splits}
 
 byte : (s : List ℕ) → T (areBytes s) → (i : ℕ) → getD s i 0 < 256

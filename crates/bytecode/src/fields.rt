@@ -4,7 +4,7 @@ ghost use Prim.Native.Nat.{_+_, _*_, _≤_, _<_, _^_};
 ghost use mathlib.Core.List.{_++_};
 ghost use lib.ListN.{length, drop};
 ghost use Rattle.bytecode.specs.Layout.{wordAt, longAt};
-ghost use Rattle.bytecode.specs.Fields.{fieldsOf, bytesOf};
+ghost use Rattle.bytecode.specs.Fields.{fieldsOf, bytesOf, withWord};
 
 pub struct Fields {
     pub opcode: u32,
@@ -54,34 +54,25 @@ pub(crate) fn write_fields(f: Fields, out: &mut [u8])
     requires { ⌜ 24 ≤ length (now out) ⌝ }
     ensures { λ _. ⌜ now (out .exit) ≡ bytesOf f ++ drop 24 (now (out .entry)) ⌝ }
 {
-    let opcode = f.opcode;
+    let opcode = f.opcode as u64;
     let destination = f.destination;
-    let low1 = f.source1;
-    let high1 = low1 / 0x1_0000_0000;
-    let low2 = f.source2;
-    let high2 = low2 / 0x1_0000_0000;
-    out[0] = (opcode % 256) as u8;
-    out[1] = (opcode / 256 % 256) as u8;
-    out[2] = (opcode / 65536 % 256) as u8;
-    out[3] = (opcode / 16777216 % 256) as u8;
-    out[4] = (destination % 256) as u8;
-    out[5] = (destination / 256 % 256) as u8;
-    out[6] = (destination / 65536 % 256) as u8;
-    out[7] = (destination / 16777216 % 256) as u8;
-    out[8] = (low1 % 256) as u8;
-    out[9] = (low1 / 256 % 256) as u8;
-    out[10] = (low1 / 65536 % 256) as u8;
-    out[11] = (low1 / 16777216 % 256) as u8;
-    out[12] = (high1 % 256) as u8;
-    out[13] = (high1 / 256 % 256) as u8;
-    out[14] = (high1 / 65536 % 256) as u8;
-    out[15] = (high1 / 16777216 % 256) as u8;
-    out[16] = (low2 % 256) as u8;
-    out[17] = (low2 / 256 % 256) as u8;
-    out[18] = (low2 / 65536 % 256) as u8;
-    out[19] = (low2 / 16777216 % 256) as u8;
-    out[20] = (high2 % 256) as u8;
-    out[21] = (high2 / 256 % 256) as u8;
-    out[22] = (high2 / 65536 % 256) as u8;
-    out[23] = (high2 / 16777216 % 256) as u8;
+    let source1 = f.source1;
+    let source2 = f.source2;
+    write_word(out, 0, opcode);
+    write_word(out, 4, destination);
+    write_word(out, 8, source1);
+    write_word(out, 12, source1 / 0x1_0000_0000);
+    write_word(out, 16, source2);
+    write_word(out, 20, source2 / 0x1_0000_0000);
+}
+
+// The low four bytes of a number, the lowest first.
+fn write_word(out: &mut [u8], at: usize, word: u64)
+    requires { ⌜ at + 4 ≤ length (now out) ⌝ }
+    ensures { λ _. ⌜ now (out .exit) ≡ withWord (now (out .entry)) at word ⌝ }
+{
+    out[at] = (word % 256) as u8;
+    out[at + 1] = (word / 256 % 256) as u8;
+    out[at + 2] = (word / 65536 % 256) as u8;
+    out[at + 3] = (word / 16777216 % 256) as u8;
 }

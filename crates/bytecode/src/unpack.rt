@@ -1,5 +1,7 @@
 // A record from the fields of a token: each value is read at its bits.
 ghost use mathlib.Core.Path.{_≡_};
+ghost use Rattle.bytecode.specs.Layout as layout;
+ghost use Rattle.bytecode.specs.Layout.{valueOf};
 ghost use Rattle.bytecode.specs.Records.{signed, registerOf, sourceOf, samplerOf, destinationOf, operandOf};
 use crate::layout;
 use crate::opcodes::OperandShape;
@@ -33,22 +35,22 @@ pub(crate) fn unpack_operand(shape: OperandShape, field: u64) -> Operand
 fn unpack_register(field: u64) -> MaskedRegister
     ensures { λ r. ⌜ r ≡ registerOf field ⌝ }
 {
-    let number = layout::value(field, layout::NUMBER) as u16;
-    let mask = layout::value(field, layout::MASK) as u8;
-    let kind = layout::value(field, layout::MASKED_KIND) as u8;
+    let number = number_of(field);
+    let mask = mask_of(field);
+    let kind = masked_kind_of(field);
     MaskedRegister { number, mask, kind }
 }
 
 fn unpack_source(field: u64) -> Operand
     ensures { λ r. ⌜ r ≡ sourceOf field ⌝ }
 {
-    let number = layout::value(field, layout::NUMBER) as u16;
-    let offset = layout::value(field, layout::OFFSET) as u8;
-    let swizzle = layout::value(field, layout::SWIZZLE) as u8;
-    let kind = layout::value(field, layout::KIND) as u8;
-    let index_kind = layout::value(field, layout::INDEX_KIND) as u8;
-    let component = layout::value(field, layout::COMPONENT) as u8;
-    let indirect = layout::value(field, layout::INDIRECT);
+    let number = number_of(field);
+    let offset = offset_of(field);
+    let swizzle = swizzle_of(field);
+    let kind = kind_of(field);
+    let index_kind = index_kind_of(field);
+    let component = component_of(field);
+    let indirect = indirect_of(field);
     if indirect == 0 {
         return Operand::Direct(DirectSource {
             number,
@@ -72,14 +74,14 @@ fn unpack_source(field: u64) -> Operand
 fn unpack_sampler(field: u64) -> Sampler
     ensures { λ r. ⌜ r ≡ samplerOf field ⌝ }
 {
-    let number = layout::value(field, layout::NUMBER) as u16;
-    let bias = signed_byte(layout::value(field, layout::BIAS) as u8);
-    let kind = layout::value(field, layout::KIND) as u8;
-    let dimension = layout::value(field, layout::DIMENSION) as u8;
-    let special = layout::value(field, layout::SPECIAL) as u8;
-    let wrap = layout::value(field, layout::WRAP) as u8;
-    let mipmap = layout::value(field, layout::MIPMAP) as u8;
-    let filter = layout::value(field, layout::FILTER) as u8;
+    let number = number_of(field);
+    let bias = signed_byte(bias_of(field));
+    let kind = kind_of(field);
+    let dimension = dimension_of(field);
+    let special = special_of(field);
+    let wrap = wrap_of(field);
+    let mipmap = mipmap_of(field);
+    let filter = filter_of(field);
     Sampler {
         number,
         bias,
@@ -101,4 +103,99 @@ fn signed_byte(byte: u8) -> i8
     } else {
         (byte as i16 - 256) as i8
     }
+}
+
+// The number, in every field.
+fn number_of(field: u64) -> u16
+    ensures { λ r. ⌜ r ≡ valueOf layout.number field ⌝ }
+{
+    layout::value(field, layout::NUMBER) as u16
+}
+
+// Of a destination.
+fn mask_of(field: u64) -> u8
+    ensures { λ r. ⌜ r ≡ valueOf layout.mask field ⌝ }
+{
+    layout::value(field, layout::MASK) as u8
+}
+
+fn masked_kind_of(field: u64) -> u8
+    ensures { λ r. ⌜ r ≡ valueOf layout.maskedKind field ⌝ }
+{
+    layout::value(field, layout::MASKED_KIND) as u8
+}
+
+// Of a source.
+fn offset_of(field: u64) -> u8
+    ensures { λ r. ⌜ r ≡ valueOf layout.offset field ⌝ }
+{
+    layout::value(field, layout::OFFSET) as u8
+}
+
+fn swizzle_of(field: u64) -> u8
+    ensures { λ r. ⌜ r ≡ valueOf layout.swizzle field ⌝ }
+{
+    layout::value(field, layout::SWIZZLE) as u8
+}
+
+// Of a source and of a sampler.
+fn kind_of(field: u64) -> u8
+    ensures { λ r. ⌜ r ≡ valueOf layout.kind field ⌝ }
+{
+    layout::value(field, layout::KIND) as u8
+}
+
+fn index_kind_of(field: u64) -> u8
+    ensures { λ r. ⌜ r ≡ valueOf layout.indexKind field ⌝ }
+{
+    layout::value(field, layout::INDEX_KIND) as u8
+}
+
+fn component_of(field: u64) -> u8
+    ensures { λ r. ⌜ r ≡ valueOf layout.component field ⌝ }
+{
+    layout::value(field, layout::COMPONENT) as u8
+}
+
+fn indirect_of(field: u64) -> u8
+    ensures { λ r. ⌜ r ≡ valueOf layout.indirect field ⌝ }
+{
+    layout::value(field, layout::INDIRECT) as u8
+}
+
+// Of a sampler.
+fn bias_of(field: u64) -> u8
+    ensures { λ r. ⌜ r ≡ valueOf layout.bias field ⌝ }
+{
+    layout::value(field, layout::BIAS) as u8
+}
+
+fn dimension_of(field: u64) -> u8
+    ensures { λ r. ⌜ r ≡ valueOf layout.dimension field ⌝ }
+{
+    layout::value(field, layout::DIMENSION) as u8
+}
+
+fn special_of(field: u64) -> u8
+    ensures { λ r. ⌜ r ≡ valueOf layout.special field ⌝ }
+{
+    layout::value(field, layout::SPECIAL) as u8
+}
+
+fn wrap_of(field: u64) -> u8
+    ensures { λ r. ⌜ r ≡ valueOf layout.wrap field ⌝ }
+{
+    layout::value(field, layout::WRAP) as u8
+}
+
+fn mipmap_of(field: u64) -> u8
+    ensures { λ r. ⌜ r ≡ valueOf layout.mipmap field ⌝ }
+{
+    layout::value(field, layout::MIPMAP) as u8
+}
+
+fn filter_of(field: u64) -> u8
+    ensures { λ r. ⌜ r ≡ valueOf layout.filter field ⌝ }
+{
+    layout::value(field, layout::FILTER) as u8
 }

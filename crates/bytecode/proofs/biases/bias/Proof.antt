@@ -11,7 +11,7 @@ use mir.Syntax.{w8}
 use mir.Val.{toZ, ofZ, SFits}
 use borrow.Author.Needs.{needs}
 use Rattle.bytecode.specs.Bias.{isEighth, eighthOf}
-use Rattle.bytecode.proofs.Every.{signed-bytes, both-left, both-right}
+use Rattle.laws.proofs.Every.{signed-bytes, both-left, both-right}
 use Rattle.bytecode.proofs.Floats.{eqF, eqF→eq}
 use Rattle.bytecode.proofs.biases.bias.Statement.{statement}
 use Rattle.bytecode.proofs.biases.bias.Tie as tie

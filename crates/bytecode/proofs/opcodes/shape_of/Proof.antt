@@ -5,7 +5,7 @@ use mathlib.Core.List.{List, [], _∷_}
 use mathlib.Core.Path.{_∙_, ap}
 use borrow.Author.Needs.{needs}
 use Rattle.bytecode.specs.Opcodes.{rowOf, shapeOfRow}
-use Rattle.bytecode.proofs.Every.{entry}
+use Rattle.laws.proofs.Every.{entry}
 use Rattle.bytecode.proofs.Listed.{past}
 use Rattle.bytecode.proofs.opcodes.shape_of.Statement.{statement}
 use Rattle.bytecode.proofs.opcodes.shape_of.Tie as tie

@@ -6,7 +6,7 @@ use mir.Val.{SFits}
 use mir.ValLaws.{toZ-ofZ}
 use borrow.Author.Tests.{le-ltb, lt-ltb}
 use Rattle.bytecode.specs.Encode.{isSignedByte, samplerFits}
-use Rattle.bytecode.proofs.Every.{is-true}
+use Rattle.laws.proofs.Every.{is-true}
 use Rattle.bytecode.proofs.pack.pack_settings.Statement.{statement}
 use Rattle.bytecode.proofs.pack.pack_settings.Tie as tie
 

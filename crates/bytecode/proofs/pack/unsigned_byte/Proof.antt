@@ -8,7 +8,7 @@ use lib.Signed.{mag, nonNeg, remZ, quotZ}
 use mir.Syntax.{w8, w16}
 use mir.Val.{toZ, ofZ}
 use Rattle.bytecode.specs.Encode.{unsigned, isSignedByte}
-use Rattle.bytecode.proofs.Every.{signed-bytes}
+use Rattle.laws.proofs.Every.{signed-bytes}
 use Rattle.bytecode.proofs.pack.unsigned_byte.Statement.{statement}
 use Rattle.bytecode.proofs.pack.unsigned_byte.Tie as tie
 

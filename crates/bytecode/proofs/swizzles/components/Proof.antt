@@ -4,7 +4,7 @@ use mathlib.Core.List.{List, [], _∷_}
 use Prim.Native.Nat.{ℕ}
 use borrow.Author.Needs.{needs}
 use Rattle.bytecode.specs.Swizzles.{componentsOf}
-use Rattle.bytecode.proofs.Every.{entry}
+use Rattle.laws.proofs.Every.{entry}
 use Rattle.bytecode.proofs.swizzles.components.Statement.{statement}
 use Rattle.bytecode.proofs.swizzles.components.Tie as tie
 

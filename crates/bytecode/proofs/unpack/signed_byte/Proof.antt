@@ -10,7 +10,8 @@ use mir.Syntax.{w8, w16}
 use mir.Val.{toZ, ofZ}
 use lib.Signed.{mag}
 use Rattle.bytecode.specs.Records.{signed}
-use Rattle.bytecode.proofs.Every.{below, either-right, eqZ, eqZ→eq}
+use Rattle.laws.specs.Tests.{eqZ}
+use Rattle.laws.proofs.Every.{below, either-right, eqZ→eq}
 use Rattle.bytecode.proofs.unpack.signed_byte.Statement.{statement}
 use Rattle.bytecode.proofs.unpack.signed_byte.Tie as tie
 

@@ -1,7 +1,7 @@
 -- A rule that holds of every number below a bound, or of every entry of a table, by one test that antt computes over all of them.
 -- Assumes nothing.
 use Prim.Native.Nat.{ℕ, zero, suc, _+_, _<_, _≤_}
-use mathlib.Core.Bool.{Bool, true, false, _&&_, _||_}
+use mathlib.Core.Bool.{Bool, true, false, _&&_, _||_, false≢true}
 use mathlib.Core.List.{List, [], _∷_}
 use mathlib.Core.Path.{_≡_, _∙_, refl, sym, subst, ap}
 use native.Mathlib.Nat.{add-zero, zero-add, add-suc, suc-add, le-of-suc-le-suc, not-suc-le-zero}
@@ -11,6 +11,7 @@ use lib.Dec.{T, eqb, eqb→eq}
 use lib.IntN.{ℤ, pos, negsuc}
 use lib.ListN.{length, getD}
 use lib.Signed.{mag}
+use Rattle.laws.specs.Tests.{every, everyEntry, eqZ}
 
 pub both-left : (a b : Bool) → T (a && b) → T a
 both-left true b t = tt
@@ -28,12 +29,15 @@ pub is-true : (b : Bool) → T b → b ≡ true
 is-true true t = refl
 is-true false t = absurd t
 
--- ---- numbers below a bound
+pub left : (a b : Bool) → (a && b) ≡ true → a ≡ true
+left true b e = refl
+left false b e = e
 
--- the test passes at every number below n
-abbrev pub every : (ℕ → Bool) → ℕ → Bool
-every f zero = true
-every f (suc n) = f n && every f n
+pub right : (a b : Bool) → (a && b) ≡ true → b ≡ true
+right true b e = e
+right false b e = absurd (false≢true e)
+
+-- ---- numbers below a bound
 
 pub below : (f : ℕ → Bool) (n : ℕ) → T (every f n) → (k : ℕ) → k < n → T (f k)
 below f zero t k h = absurd (not-suc-le-zero h)
@@ -44,11 +48,6 @@ below f (suc n) t k h =
     ]
 
 -- ---- entries of a table
-
--- the test passes at each entry and its place, counted from i
-abbrev pub everyEntry : (ℕ → ℕ → Bool) → ℕ → List ℕ → Bool
-everyEntry f i [] = true
-everyEntry f i (x ∷ xs) = f i x && everyEntry f (suc i) xs
 
 from : (f : ℕ → ℕ → Bool) (xs : List ℕ) (i : ℕ) → T (everyEntry f i xs) → (k : ℕ) → k < length xs → T (f (i + k) (getD xs k 0))
 from f [] i t k h = absurd (not-suc-le-zero h)
@@ -69,12 +68,6 @@ entry f xs t k h =
 pub signed-bytes : (f : ℤ → Bool) → T (every (λ n. f (pos n)) 128) → T (every (λ n. f (negsuc n)) 128) → (z : ℤ) → mag z < 128 → T (f z)
 signed-bytes f p n (pos k) h = below (λ k. f (pos k)) 128 p k h
 signed-bytes f p n (negsuc k) h = below (λ k. f (negsuc k)) 128 n k h
-
-abbrev pub eqZ : ℤ → ℤ → Bool
-eqZ (pos a) (pos b) = eqb a b
-eqZ (pos a) (negsuc b) = false
-eqZ (negsuc a) (pos b) = false
-eqZ (negsuc a) (negsuc b) = eqb a b
 
 pub eqZ→eq : (a b : ℤ) → T (eqZ a b) → a ≡ b
 eqZ→eq (pos a) (pos b) t = ap pos (eqb→eq a b t)
