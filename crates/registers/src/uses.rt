@@ -5,11 +5,13 @@ ghost use Rattle.registers.specs.Uses.{isReadable, isWritable};
 pub fn is_readable(kind: u8, stage: u8) -> bool
     ensures { λ r. ⌜ r ≡ isReadable kind stage ⌝ }
 {
-    ((stage == 0) & ((kind == 0) | (kind == 1) | (kind == 2))) | ((stage == 1) & ((kind == 1) | (kind == 2) | (kind == 4)))
+    ((stage == 0) & ((kind == 0) | (kind == 1) | (kind == 2)))
+        | ((stage == 1) & ((kind == 1) | (kind == 2) | (kind == 4)))
 }
 
 pub fn is_writable(kind: u8, stage: u8) -> bool
     ensures { λ r. ⌜ r ≡ isWritable kind stage ⌝ }
 {
-    ((stage == 0) & ((kind == 2) | (kind == 3) | (kind == 4))) | ((stage == 1) & ((kind == 2) | (kind == 3) | (kind == 6)))
+    ((stage == 0) & ((kind == 2) | (kind == 3) | (kind == 4)))
+        | ((stage == 1) & ((kind == 2) | (kind == 3) | (kind == 6)))
 }
