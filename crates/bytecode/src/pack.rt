@@ -7,6 +7,7 @@ use crate::fields::Fields;
 use crate::layout;
 use crate::opcodes;
 use crate::opcodes::OperandShape;
+use crate::opcodes::Shape;
 use crate::record::Destination;
 use crate::record::MaskedRegister;
 use crate::record::Operand;
@@ -32,18 +33,13 @@ pub(crate) fn pack_token(token: Token) -> PackedToken
     if !shape.listed {
         return PackedToken::Unfit;
     }
-    let shape1 = shape.source1;
-    let shape2 = shape.source2;
-    let masked = token.destination;
-    let operand1 = token.source1;
-    let operand2 = token.source2;
-    let Packed::Field(destination) = pack_destination(shape.destination, masked) else {
+    let Packed::Field(destination) = destination_of(shape, token) else {
         return PackedToken::Unfit;
     };
-    let Packed::Field(source1) = pack_operand(shape1, operand1) else {
+    let Packed::Field(source1) = source1_of(shape, token) else {
         return PackedToken::Unfit;
     };
-    let Packed::Field(source2) = pack_operand(shape2, operand2) else {
+    let Packed::Field(source2) = source2_of(shape, token) else {
         return PackedToken::Unfit;
     };
     PackedToken::Fields(Fields {
@@ -54,7 +50,30 @@ pub(crate) fn pack_token(token: Token) -> PackedToken
     })
 }
 
-pub(crate) fn pack_destination(used: bool, destination: Destination) -> Packed
+fn destination_of(shape: Shape, token: Token) -> Packed
+    ensures { λ r. ⌜ r ≡ packed (destinationFits (shape .destination) (token .destination)) (destinationField (token .destination)) ⌝ }
+{
+    let destination = token.destination;
+    pack_destination(shape.destination, destination)
+}
+
+fn source1_of(shape: Shape, token: Token) -> Packed
+    ensures { λ r. ⌜ r ≡ packed (operandFits (shape .source1) (token .source1)) (operandField (token .source1)) ⌝ }
+{
+    let kind = shape.source1;
+    let operand = token.source1;
+    pack_operand(kind, operand)
+}
+
+fn source2_of(shape: Shape, token: Token) -> Packed
+    ensures { λ r. ⌜ r ≡ packed (operandFits (shape .source2) (token .source2)) (operandField (token .source2)) ⌝ }
+{
+    let kind = shape.source2;
+    let operand = token.source2;
+    pack_operand(kind, operand)
+}
+
+fn pack_destination(used: bool, destination: Destination) -> Packed
     ensures { λ r. ⌜ r ≡ packed (destinationFits used destination) (destinationField destination) ⌝ }
 {
     match destination {
@@ -90,7 +109,7 @@ fn pack_register(register: MaskedRegister) -> Packed
     Packed::Field(number + mask + kind)
 }
 
-pub(crate) fn pack_operand(shape: OperandShape, operand: Operand) -> Packed
+fn pack_operand(shape: OperandShape, operand: Operand) -> Packed
     ensures { λ r. ⌜ r ≡ packed (operandFits shape operand) (operandField operand) ⌝ }
 {
     match shape {
