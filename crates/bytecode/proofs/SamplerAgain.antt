@@ -12,7 +12,7 @@ use borrow.Author.Tests.{lt-ltb, le-ltb, ltb-true}
 use Rattle.bytecode.specs.Layout as layout
 use Rattle.bytecode.specs.Layout.{valueOf, definedBits, samplerRows, isStray}
 use Rattle.bytecode.specs.Records.{signed, samplerOf}
-use Rattle.bytecode.specs.Encode.{unsigned, isSignedByte, settingsField, samplerFits, samplerField}
+use Rattle.bytecode.specs.Encode.{unsigned, isSignedByte, samplerFits, samplerField}
 use Rattle.bytecode.specs.declared.record.Sampler.{Sampler}
 use Rattle.laws.proofs.Every.{below, both-left, both-right, is-true, left, right}
 use Rattle.bytecode.proofs.Rows.{Rising, Fit, pack, values-again}
@@ -40,10 +40,6 @@ signed-again (negsuc n) e =
 rising : Rising 0 samplerRows
 rising = (lit≤ tt, (lit≤ tt, (lit≤ tt, (lit≤ tt, (lit≤ tt, (lit≤ tt, (lit≤ tt, (lit≤ tt, tt))))))))
 
-packed : (n b t d s w m f : ℕ) → settingsField n b t d s w m f ≡ pack samplerRows (n ∷ b ∷ t ∷ d ∷ s ∷ w ∷ m ∷ f ∷ [])
-unfolding settingsField
-packed n b t d s w m f = omega arith
-
 pub sampler-fits : (w : ℕ) → samplerFits (samplerOf w) ≡ true
 unfolding samplerFits
 sampler-fits w =
@@ -58,15 +54,21 @@ sampler-fits w =
       byte-again (valueOf layout.bias w) (omega arith) .1,
     )
 
-pub sampler-again : (w : ℕ) → isStray (definedBits samplerRows) w ≡ false → samplerField (samplerOf w) ≡ w
-sampler-again w e =
-    rw (byte-again (valueOf layout.bias w) (omega arith) .0)
-    (packed _ _ _ _ _ _ _ _ ∙ all-kept samplerRows rising w e)
-
 -- ---- from a record
 
 valuesOf : Sampler → List ℕ
 valuesOf s = s .number ∷ unsigned (s .bias) ∷ s .kind ∷ s .dimension ∷ s .special ∷ s .wrap ∷ s .mipmap ∷ s .filter ∷ []
+
+packed : (s : Sampler) → samplerField s ≡ pack samplerRows (valuesOf s)
+unfolding samplerField valuesOf
+packed s = omega arith
+
+pub sampler-again : (w : ℕ) → isStray (definedBits samplerRows) w ≡ false → samplerField (samplerOf w) ≡ w
+unfolding valuesOf
+sampler-again w e =
+    packed (samplerOf w)
+    ∙ ap (λ b. pack samplerRows (valueOf layout.number w ∷ b ∷ valueOf layout.kind w ∷ valueOf layout.dimension w ∷ valueOf layout.special w ∷ valueOf layout.wrap w ∷ valueOf layout.mipmap w ∷ valueOf layout.filter w ∷ [])) (byte-again (valueOf layout.bias w) (omega arith) .0)
+    ∙ all-kept samplerRows rising w e
 
 fromValues : List ℕ → Sampler
 fromValues vs =
@@ -114,14 +116,14 @@ module _ (s : Sampler) (e : samplerFits s ≡ true) where
   pub sampler-of : samplerOf (samplerField s) ≡ s
   unfolding fromValues valuesOf
   sampler-of =
-      ap samplerOf (packed _ _ _ _ _ _ _ _)
+      ap samplerOf (packed s)
       ∙ ap fromValues (values-again samplerRows (valuesOf s) rising fit)
       ∙ rw (signed-again (s .bias) bias-fits .0)
 
   pub sampler-clean : isStray (definedBits samplerRows) (samplerField s) ≡ false
   unfolding valuesOf
-  sampler-clean = rw (packed (s .number) (unsigned (s .bias)) (s .kind) (s .dimension) (s .special) (s .wrap) (s .mipmap) (s .filter)) (none-stray samplerRows (valuesOf s) rising fit)
+  sampler-clean = rw (packed s) (none-stray samplerRows (valuesOf s) rising fit)
 
   pub sampler-small : samplerField s < 2 ^ 64
-  unfolding settingsField valuesOf
+  unfolding samplerField valuesOf
   sampler-small = omega (arith, fit .0, fit .1 .0, fit .1 .1 .0, fit .1 .1 .1 .0, fit .1 .1 .1 .1 .0, fit .1 .1 .1 .1 .1 .0, fit .1 .1 .1 .1 .1 .1 .0, fit .1 .1 .1 .1 .1 .1 .1 .0)

@@ -60,10 +60,23 @@ sourceFits n o s t i q =
     fits layout.kind t && fits layout.indexKind i && fits layout.component q
     && fits layout.number n && fits layout.offset o && fits layout.swizzle s
 
+-- the values up to bit 31, and those from bit 32 on; d is D
+abbrev pub sourceLow : ℕ → ℕ → ℕ → ℕ
+sourceLow n o s = placed layout.number n + placed layout.offset o + placed layout.swizzle s
+
+abbrev pub sourceHigh : ℕ → ℕ → ℕ → ℕ → ℕ
+sourceHigh t i q d =
+    placed layout.kind t + placed layout.indexKind i + placed layout.component q + placed layout.indirect d
+
 unfoldable pub sourceField : ℕ → ℕ → ℕ → ℕ → ℕ → ℕ → ℕ → ℕ
-sourceField n o s t i q d =
-    placed layout.number n + placed layout.offset o + placed layout.swizzle s
-    + placed layout.kind t + placed layout.indexKind i + placed layout.component q + placed layout.indirect d
+sourceField n o s t i q d = sourceLow n o s + sourceHigh t i q d
+
+-- the values from bit 32 on fit
+pub record SourceHigh (t i q d : ℕ) : Type 0 where
+  pub kind : t < 16
+  pub index-kind : i < 16
+  pub component : q < 4
+  pub indirect : d < 2
 
 -- ---- a sampler
 
@@ -82,18 +95,22 @@ samplerFits s =
     && fits layout.wrap (s .wrap) && fits layout.mipmap (s .mipmap) && fits layout.filter (s .filter)
     && fits layout.number (s .number) && isSignedByte (s .bias)
 
-unfoldable pub settingsField : ℕ → ℕ → ℕ → ℕ → ℕ → ℕ → ℕ → ℕ → ℕ
-settingsField n b t d s w m f =
-    placed layout.number n + placed layout.bias b + placed layout.kind t + placed layout.dimension d
-    + placed layout.special s + placed layout.wrap w + placed layout.mipmap m + placed layout.filter f
+-- the values up to bit 35, and those from bit 44 on
+abbrev pub samplerLow : ℕ → ℕ → ℕ → ℕ
+samplerLow n b t = placed layout.number n + placed layout.bias b + placed layout.kind t
 
-abbrev pub samplerField : Sampler → ℕ
+abbrev pub samplerHigh : ℕ → ℕ → ℕ → ℕ → ℕ → ℕ
+samplerHigh d s w m f =
+    placed layout.dimension d + placed layout.special s + placed layout.wrap w + placed layout.mipmap m
+    + placed layout.filter f
+
+unfoldable pub samplerField : Sampler → ℕ
 samplerField s =
-    settingsField (s .number) (unsigned (s .bias)) (s .kind) (s .dimension) (s .special) (s .wrap) (s .mipmap) (s .filter)
+    samplerLow (s .number) (unsigned (s .bias)) (s .kind)
+    + samplerHigh (s .dimension) (s .special) (s .wrap) (s .mipmap) (s .filter)
 
--- the values that have four bits fit them
-pub record Settings (t d s w m f : ℕ) : Type 0 where
-  pub kind : t < 16
+-- the values from bit 44 on fit
+pub record SamplerHigh (d s w m f : ℕ) : Type 0 where
   pub dimension : d < 16
   pub special : s < 16
   pub wrap : w < 16

@@ -1,8 +1,8 @@
 // A token's fields from its record: each value is placed at its bits, unless it is wider than its place.
 ghost use mathlib.Core.Path.{_≡_};
-ghost use Prim.Native.Nat.{_<_};
+ghost use Prim.Native.Nat.{_+_, _<_, _≤_, _^_};
 ghost use lib.Dec.{T};
-ghost use Rattle.bytecode.specs.Encode.{packed, unsigned, isSignedByte, registerFits, registerField, destinationFits, destinationField, sourceFits, sourceField, Settings, settingsField, samplerFits, samplerField, operandFits, operandField, isEncodable, tokenFields, packedToken};
+ghost use Rattle.bytecode.specs.Encode.{packed, unsigned, isSignedByte, registerFits, registerField, destinationFits, destinationField, sourceLow, SourceHigh, sourceHigh, sourceFits, sourceField, samplerLow, SamplerHigh, samplerHigh, samplerFits, samplerField, operandFits, operandField, isEncodable, tokenFields, packedToken};
 use crate::fields::Fields;
 use crate::layout;
 use crate::opcodes;
@@ -190,14 +190,29 @@ fn pack_values(
     if 4 <= component {
         return Packed::Unfit;
     }
+    let low = source_low(number, offset, swizzle);
+    let high = source_high(kind, index_kind, component, indirect);
+    Packed::Field(low + high)
+}
+
+fn source_low(number: u16, offset: u8, swizzle: u8) -> u64
+    ensures { λ r. ⌜ (r ≡ sourceLow number offset swizzle) × (r < 2 ^ 32) ⌝ }
+{
     let n = layout::placed(number as u64, layout::NUMBER);
     let o = layout::placed(offset as u64, layout::OFFSET);
     let s = layout::placed(swizzle as u64, layout::SWIZZLE);
+    n + o + s
+}
+
+fn source_high(kind: u8, index_kind: u8, component: u8, indirect: u64) -> u64
+    requires { ⌜ SourceHigh kind «index_kind» component indirect ⌝ }
+    ensures { λ r. ⌜ (r ≡ sourceHigh kind «index_kind» component indirect) × (r + 2 ^ 32 ≤ 2 ^ 64) ⌝ }
+{
     let t = layout::placed(kind as u64, layout::KIND);
     let i = layout::placed(index_kind as u64, layout::INDEX_KIND);
     let q = layout::placed(component as u64, layout::COMPONENT);
     let d = layout::placed(indirect, layout::INDIRECT);
-    Packed::Field(n + o + s + t + i + q + d)
+    t + i + q + d
 }
 
 fn pack_settings(sampler: Sampler) -> Packed
@@ -222,40 +237,37 @@ fn pack_settings(sampler: Sampler) -> Packed
         return Packed::Unfit;
     }
     let bias = unsigned_byte(sampler.bias);
-    Packed::Field(settings_field(
-        sampler.number,
-        bias,
-        sampler.kind,
+    let low = sampler_low(sampler.number, bias, sampler.kind);
+    let high = sampler_high(
         sampler.dimension,
         sampler.special,
         sampler.wrap,
         sampler.mipmap,
         sampler.filter,
-    ))
+    );
+    Packed::Field(low + high)
 }
 
-fn settings_field(
-    number: u16,
-    bias: u8,
-    kind: u8,
-    dimension: u8,
-    special: u8,
-    wrap: u8,
-    mipmap: u8,
-    filter: u8,
-) -> u64
-    requires { ⌜ Settings kind dimension special wrap mipmap filter ⌝ }
-    ensures { λ r. ⌜ r ≡ settingsField number bias kind dimension special wrap mipmap filter ⌝ }
+fn sampler_low(number: u16, bias: u8, kind: u8) -> u64
+    requires { ⌜ kind < 16 ⌝ }
+    ensures { λ r. ⌜ (r ≡ samplerLow number bias kind) × (r < 2 ^ 36) ⌝ }
 {
     let n = layout::placed(number as u64, layout::NUMBER);
     let b = layout::placed(bias as u64, layout::BIAS);
     let t = layout::placed(kind as u64, layout::KIND);
+    n + b + t
+}
+
+fn sampler_high(dimension: u8, special: u8, wrap: u8, mipmap: u8, filter: u8) -> u64
+    requires { ⌜ SamplerHigh dimension special wrap mipmap filter ⌝ }
+    ensures { λ r. ⌜ (r ≡ samplerHigh dimension special wrap mipmap filter) × (r + 2 ^ 36 ≤ 2 ^ 64) ⌝ }
+{
     let d = layout::placed(dimension as u64, layout::DIMENSION);
     let s = layout::placed(special as u64, layout::SPECIAL);
     let w = layout::placed(wrap as u64, layout::WRAP);
     let m = layout::placed(mipmap as u64, layout::MIPMAP);
     let f = layout::placed(filter as u64, layout::FILTER);
-    n + b + t + d + s + w + m + f
+    d + s + w + m + f
 }
 
 // A signed byte as the byte that says it, by two's complement.

@@ -1,7 +1,6 @@
 -- `pack_values` meets its contract.
 -- Assumes nothing.
 use borrow.Author.Needs.{needs}
-use native.Mathlib.Omega.{arith}
 use borrow.Author.Tests.{le-ltb, lt-ltb}
 use Rattle.bytecode.specs.Encode.{sourceFits, sourceField}
 use Rattle.bytecode.proofs.pack.pack_values.Statement.{statement}
@@ -19,78 +18,28 @@ returns-3 : tie.Need-returns-3
 unfolding sourceFits
 returns-3 c = simp (lt-ltb _ _ (c .before .before .if1 .left), lt-ltb _ _ (c .before .if2 .left), le-ltb _ _ (c .if3 .taken))
 
-placed-requires : tie.Need-placed-requires
-placed-requires c κs = search needs
+source-low-requires : tie.Need-source-low-requires
+source-low-requires c κs = search needs
 
-placed-requires-2 : tie.Need-placed-requires-2
-placed-requires-2 c κs = search needs
+source-high-requires : tie.Need-source-high-requires
+source-high-requires c κs = search needs
 
-placed-requires-3 : tie.Need-placed-requires-3
-placed-requires-3 c κs = search needs
-
-placed-requires-4 : tie.Need-placed-requires-4
-placed-requires-4 c κs = search needs
-
-placed-requires-5 : tie.Need-placed-requires-5
-placed-requires-5 c κs = search needs
-
-placed-requires-6 : tie.Need-placed-requires-6
-placed-requires-6 c κs = search needs
-
-placed-requires-7 : tie.Need-placed-requires-7
-placed-requires-7 c κs = search needs
-
-add-t16 : tie.Need-add-t16
-add-t16 c = search needs
-
-add-t18 : tie.Need-add-t18
-add-t18 c = search needs
-
-add-t19 : tie.Need-add-t19
-add-t19 c = search needs
-
-add-t20 : tie.Need-add-t20
-add-t20 c = search needs
-
-add-t21 : tie.Need-add-t21
-add-t21 c = search needs
-
-add-t22 : tie.Need-add-t22
-add-t22 c =
-    omega (
-      arith,
-      c .placed7 .ensures,
-      c .before .placed6 .ensures,
-      c .before .before .placed5 .ensures,
-      c .before .before .before .placed4 .ensures,
-      c .before .before .before .before .placed3 .ensures,
-      c .before .before .before .before .before .placed2 .ensures,
-      c .before .before .before .before .before .before .placed .ensures,
-      c .before .before .before .before .before .before .before .if3 .left,
-      c .before .before .before .before .before .before .before .before .if2 .left,
-      c .before .before .before .before .before .before .before .before .before .if1 .left,
-      c .before .before .before .before .before .before .before .before .before .before .fits,
-      c .before .before .before .before .before .before .before .before .before .before .pre,
-    )
+add-t11 : tie.Need-add-t11
+add-t11 c = search needs
 
 returns-4 : tie.Need-returns-4
 unfolding sourceFits sourceField
 returns-4 c =
-    let f = c .before .before .before .before .before .before .before .before .before .before .fits in
+    let f = c .before .before .before .before .before .fits in
     simp (
-      lt-ltb _ _ (c .before .before .before .before .before .before .before .before .before .if1 .left),
-      lt-ltb _ _ (c .before .before .before .before .before .before .before .before .if2 .left),
-      lt-ltb _ _ (c .before .before .before .before .before .before .before .if3 .left),
+      lt-ltb _ _ (c .before .before .before .before .if1 .left),
+      lt-ltb _ _ (c .before .before .before .if2 .left),
+      lt-ltb _ _ (c .before .before .if3 .left),
       lt-ltb _ _ (f .number .fits),
       lt-ltb _ _ (f .offset .fits),
       lt-ltb _ _ (f .swizzle .fits),
-      c .placed7 .ensures,
-      c .before .placed6 .ensures,
-      c .before .before .placed5 .ensures,
-      c .before .before .before .placed4 .ensures,
-      c .before .before .before .before .placed3 .ensures,
-      c .before .before .before .before .before .placed2 .ensures,
-      c .before .before .before .before .before .before .placed .ensures,
+      c .source-high .ensures .0,
+      c .before .source-low .ensures .0,
     )
 
 pub pack-values-spec : {M : Type 1} → statement M
@@ -100,17 +49,7 @@ pack-values-spec =
     returns
     returns-2
     returns-3
-    placed-requires
-    placed-requires-2
-    placed-requires-3
-    placed-requires-4
-    placed-requires-5
-    placed-requires-6
-    placed-requires-7
-    add-t16
-    add-t18
-    add-t19
-    add-t20
-    add-t21
-    add-t22
+    source-low-requires
+    source-high-requires
+    add-t11
     returns-4)
