@@ -1,17 +1,11 @@
 -- Finite floats and whole numbers that a test finds equal are equal.
 -- Assumes nothing.
-use mathlib.Core.Path.{_≡_, refl}
+use mathlib.Core.Path.{_≡_}
 use mathlib.Core.Bool.{Bool, true, false, _&&_, Bool·beq}
 use lib.Dec.{T, eqb, eqb→eq}
 use lib.Ieee.{Float, nan, inf, fin}
 use Rattle.laws.specs.Tests.{eqZ}
-use Rattle.laws.proofs.Every.{both-left, both-right, eqZ→eq}
-
-same→eq : (a b : Bool) → T (Bool·beq a b) → a ≡ b
-same→eq true true t = refl
-same→eq true false t = absurd t
-same→eq false true t = absurd t
-same→eq false false t = refl
+use Rattle.laws.proofs.Every.{same→eq, both-left, both-right, eqZ→eq}
 
 abbrev pub eqF : Float → Float → Bool
 eqF nan y = false

@@ -1,0 +1,17 @@
+pub mod AccessLaws
+pub mod Among
+pub mod Bits
+pub mod Classified
+pub mod Closing
+pub mod Cuts
+pub mod ExactVerdict
+pub mod Lacking
+pub mod Levels
+pub mod Middle
+pub mod Numbers
+pub mod Parse
+pub mod PathCases
+pub mod PathDemand
+pub mod ReadCases
+pub mod Trees
+pub mod WrittenLaws

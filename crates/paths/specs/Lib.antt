@@ -1,0 +1,11 @@
+pub mod Access
+pub mod Check
+pub mod Demand
+pub mod Faults
+pub mod Nesting
+pub mod Paths
+pub mod Reads
+pub mod Tokens
+pub mod Trees
+pub mod Unwritten
+pub mod Written

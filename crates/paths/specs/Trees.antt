@@ -1,0 +1,88 @@
+-- Document 01, "Ways, reads and writes": its sentences on branches once more, over programs as trees. `visited` must agree with them.
+use mathlib.Core.Bool.{cond, false}
+use mathlib.Core.List.{List, [], _∷_}
+use mathlib.Core.Path.{_≡_}
+use Prim.Native.Nat.{ℕ, suc, _<_}
+use lib.ListN.{length}
+use Rattle.paths.specs.Paths.{plain, opener, els, eif, PathToken, Path, Visit, visitOf, visited}
+use Rattle.paths.specs.Nesting.{misplacedAt}
+
+-- "A branch is an opener, a block, perhaps els and a second block, then eif." What follows the token or the branch stands last.
+pub data Block : Type 0 where
+  empty : Block
+  token : PathToken → Block → Block
+  branch : PathToken → Block → PathToken → Block → Block
+  branchEls : PathToken → Block → PathToken → Block → PathToken → Block → Block
+
+-- "a program cut short": a block; or a block and then an opener whose first block, or whose second, is cut short
+pub data Cut : Type 0 where
+  whole : Block → Cut
+  inFirst : Block → PathToken → Cut → Cut
+  inSecond : Block → PathToken → Block → PathToken → Cut → Cut
+
+-- each token is what its place asks for
+abbrev pub Fits : Block → Type 0
+Fits empty = Unit {0}
+Fits (token t r) = (t .flow ≡ plain) × Fits r
+Fits (branch o b f r) = (o .flow ≡ opener) × Fits b × (f .flow ≡ eif) × Fits r
+Fits (branchEls o b e c f r) = (o .flow ≡ opener) × Fits b × (e .flow ≡ els) × Fits c × (f .flow ≡ eif) × Fits r
+
+-- the same of a program cut short
+abbrev pub CutFits : Cut → Type 0
+CutFits (whole b) = Fits b
+CutFits (inFirst b o p) = Fits b × (o .flow ≡ opener) × CutFits p
+CutFits (inSecond b o c e p) = Fits b × (o .flow ≡ opener) × Fits c × (e .flow ≡ els) × CutFits p
+
+-- the tokens of a block, and then these
+abbrev pub tokensOf : Block → List PathToken → List PathToken
+tokensOf empty rest = rest
+tokensOf (token t r) rest = t ∷ tokensOf r rest
+tokensOf (branch o b f r) rest = o ∷ tokensOf b (f ∷ tokensOf r rest)
+tokensOf (branchEls o b e c f r) rest = o ∷ tokensOf b (e ∷ tokensOf c (f ∷ tokensOf r rest))
+
+-- the tokens of a program cut short
+abbrev pub cutTokens : Cut → List PathToken
+cutTokens (whole b) = tokensOf b []
+cutTokens (inFirst b o p) = tokensOf b (o ∷ cutTokens p)
+cutTokens (inSecond b o c e p) = tokensOf b (o ∷ tokensOf c (e ∷ cutTokens p))
+
+-- the number of the token after a block that begins at n
+abbrev pub after : ℕ → Block → ℕ
+after n empty = n
+after n (token t r) = after (suc n) r
+after n (branch o b f r) = after (suc (after (suc n) b)) r
+after n (branchEls o b e c f r) = after (suc (after (suc (after (suc n) b)) c)) r
+
+-- "Yes visits opener, first block, eif. No visits opener, els and second block if present, eif": the visits of a path to a block that
+-- begins at n, and then these
+abbrev pub walk : Path → ℕ → Block → List Visit → List Visit
+walk p n empty later = later
+walk p n (token t r) later = visitOf n t ∷ walk p (suc n) r later
+walk p n (branch o b f r) later =
+    let m = after (suc n) b in
+    let end = visitOf m f ∷ walk p (suc m) r later in
+    visitOf n o ∷ cond (p n) (walk p (suc n) b end) end
+walk p n (branchEls o b e c f r) later =
+    let m = after (suc n) b in
+    let k = after (suc m) c in
+    let end = visitOf k f ∷ walk p (suc k) r later in
+    visitOf n o ∷ cond (p n) (walk p (suc n) b end) (visitOf m e ∷ walk p (suc m) c end)
+
+-- "On a program cut short it visits what is there."
+abbrev pub cutWalk : Path → ℕ → Cut → List Visit
+cutWalk p n (whole b) = walk p n b []
+cutWalk p n (inFirst b o q) =
+    let m = after n b in
+    walk p n b (visitOf m o ∷ cond (p m) (cutWalk p (suc m) q) [])
+cutWalk p n (inSecond b o c e q) =
+    let m = after n b in
+    let k = after (suc m) c in
+    walk p n b (visitOf m o ∷ cond (p m) (walk p (suc m) c []) (visitOf k e ∷ cutWalk p (suc k) q))
+
+-- the program is a tree, perhaps cut short, and what each path visits is the walk over that tree
+abbrev pub WalksTree : List PathToken → Type 0
+WalksTree prog = (t : Cut) × CutFits t × (cutTokens t ≡ prog) × ((p : Path) → visited p prog ≡ cutWalk p 0 t)
+
+-- so it is of every program with no token out of place
+abbrev pub Adequate : List PathToken → Type 0
+Adequate prog = ((j : ℕ) → j < length prog → misplacedAt prog j ≡ false) → WalksTree prog

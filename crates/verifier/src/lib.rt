@@ -1,0 +1,4 @@
+// The whole check.
+pub mod answers;
+pub mod profile;
+mod rules;
