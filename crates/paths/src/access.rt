@@ -193,7 +193,8 @@ fn components2(opcode: u32, mask: u8, swizzle: u8) -> u8
     named(swizzle, selectors2(opcode, mask))
 }
 
-fn rows2(opcode: u32) -> u8
+// How many registers source 2 spans.
+pub fn rows2(opcode: u32) -> u8
     ensures { λ r. ⌜ r ≡ rowCount2 opcode ⌝ }
 {
     if among(THREE_ROWS, opcode) {

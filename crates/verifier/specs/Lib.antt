@@ -1,3 +1,5 @@
+pub mod Faults
 pub mod Order
 pub mod Profile
 pub mod Rules
+pub mod State

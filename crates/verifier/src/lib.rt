@@ -1,4 +1,6 @@
 // The whole check.
 pub mod answers;
+mod faults;
 pub mod profile;
 mod rules;
+pub mod state;

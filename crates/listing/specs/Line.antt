@@ -1,0 +1,92 @@
+-- Document 01: one listing line, and the refusals of line, 25 and then 23.
+use Prim.Native.Nat.{ℕ}
+use mathlib.Core.Bool.{Bool, true, cond, _&&_}
+use mathlib.Core.List.{List, _++_}
+use mathlib.Core.Path.{_≡_}
+use lib.Dec.{ltb, leb, eqb}
+use lib.ListN.{length, drop}
+use Rattle.listing.specs.Text.{ascii}
+use Rattle.listing.specs.Names.{opcodeName}
+use Rattle.listing.specs.Items.{indentation, destinationText, operandText}
+use Rattle.bytecode.specs.Encode.{isEncodable}
+use Rattle.bytecode.specs.Decode.{refusal, noRefusal}
+use Rattle.bytecode.specs.declared.record.Destination.{Destination}
+use Rattle.bytecode.specs.declared.record.Destination.the-variants.{Unused as NoDestination, Masked}
+use Rattle.bytecode.specs.declared.record.Sampler.{Sampler}
+use Rattle.bytecode.specs.declared.record.Operand.{Operand}
+use Rattle.bytecode.specs.declared.record.Operand.the-variants.{Unused as NoOperand, Direct, Indexed, Sampler as Sampled}
+use Rattle.bytecode.specs.declared.record.Token.{Token}
+use Rattle.bytecode.specs.declared.answers.Refusal.{Refusal}
+use Rattle.listing.specs.declared.answers.Line.{Line}
+use Rattle.listing.specs.declared.answers.Line.the-variants.{Length, Refused}
+
+-- "Opcode, then used operands, one space before each, LF"
+unfoldable pub lineOf : Token → ℕ → ℕ → List ℕ
+lineOf t stage depth =
+    indentation depth
+    ++ opcodeName (t .opcode)
+    ++ destinationText stage (t .destination)
+    ++ operandText stage (t .source1)
+    ++ operandText stage (t .source2)
+    ++ ascii "\n"
+
+-- ---- which records have a line
+
+-- "a register type .. above 6"
+abbrev pub hasName : ℕ → Bool
+hasName kind = leb kind 6
+
+abbrev pub destinationHasNames : Destination → Bool
+destinationHasNames NoDestination = true
+destinationHasNames (Masked r) = hasName (r .kind)
+
+-- 19, "its number aside": type not 5, filter, wrap or dimension above 1, mipmap above 2, special not 0
+unfoldable pub samplerHasNames : Sampler → Bool
+samplerHasNames s =
+    eqb (s .kind) 5 && leb (s .filter) 1 && leb (s .wrap) 1 && leb (s .dimension) 1 && leb (s .mipmap) 2 && eqb (s .special) 0
+
+-- "a register type or an indexed source's index type above 6, or sampler settings that 19 refuses"
+abbrev pub operandHasNames : Operand → Bool
+operandHasNames NoOperand = true
+operandHasNames (Direct s) = hasName (s .kind)
+operandHasNames (Indexed s) = hasName (s .kind) && hasName (s .«index_kind»)
+operandHasNames (Sampled s) = samplerHasNames s
+
+-- what 25 refuses: a record not encodable, "a stage above 1, a depth above 16", or one not nameable
+unfoldable pub isNameable : Token → ℕ → ℕ → Bool
+isNameable t stage depth =
+    isEncodable t && leb stage 1 && leb depth 16
+    && destinationHasNames (t .destination) && operandHasNames (t .source1) && operandHasNames (t .source2)
+
+-- ---- line
+
+-- the paper's numbers of what line answers
+abbrev pub lineNumbers : Line → Refusal
+lineNumbers (Length n) = noRefusal
+lineNumbers (Refused r) = r
+
+-- 25 where the record has no line, then 23 where the lent buffer is shorter than the line
+unfoldable pub lineFault : Token → ℕ → ℕ → List ℕ → Refusal
+lineFault t stage depth buffer =
+    cond (isNameable t stage depth)
+    (cond (ltb (length buffer) (length (lineOf t stage depth))) (refusal 23 0 0) noRefusal)
+    (refusal 25 0 0)
+
+unfoldable pub lineAnswer : Token → ℕ → ℕ → List ℕ → Line
+lineAnswer t stage depth buffer =
+    cond (eqb (lineFault t stage depth buffer .number) 0)
+    (Length (length (lineOf t stage depth)))
+    (Refused (lineFault t stage depth buffer))
+
+-- what the lent buffer holds afterwards: the line and then what was there, or all that was there
+unfoldable pub afterLine : Token → ℕ → ℕ → List ℕ → List ℕ
+afterLine t stage depth buffer =
+    cond (eqb (lineFault t stage depth buffer .number) 0)
+    (lineOf t stage depth ++ drop (length (lineOf t stage depth)) buffer)
+    buffer
+
+-- the promise of line: its answer, the answer's numbers and the buffer afterwards
+pub record Lists (t : Token) (stage depth : ℕ) (before after : List ℕ) (r : Line) : Type 0 where
+  pub answer : r ≡ lineAnswer t stage depth before
+  pub numbers : lineNumbers r ≡ lineFault t stage depth before
+  pub buffer : after ≡ afterLine t stage depth before

@@ -1,0 +1,49 @@
+-- What the functions of this crate promise each other. No public promise says anything by these names.
+use Prim.Native.Nat.{ℕ, _+_, _/_, _%_, _≤_}
+use mathlib.Core.Bool.{true, cond, _&&_}
+use mathlib.Core.List.{List, [], _∷_, _++_}
+use mathlib.Core.Path.{_≡_}
+use lib.Dec.{eqb, leb}
+use lib.ListN.{take}
+use Rattle.bytecode.specs.Opcodes.{isListed}
+use Rattle.bytecode.specs.declared.record.Operand.{Operand}
+use Rattle.bytecode.specs.declared.record.Operand.the-variants.{Unused as NoOperand, Direct, Indexed, Sampler as Sampled}
+use Rattle.bytecode.specs.declared.record.Token.{Token}
+use Rattle.listing.specs.Text.{when}
+use Rattle.listing.specs.Decimal.{digit}
+use Rattle.listing.specs.Line.{destinationHasNames, operandHasNames}
+
+-- A line grows at the end of what a buffer holds: the text so far is what stands before a place. Each writer puts its item there; r, the
+-- place after the item, is at most `most` further. What stands after r is nobody's concern until the line is whole.
+pub record Appends (item : List ℕ) (most at : ℕ) (before after : List ℕ) (r : ℕ) : Type 0 where
+  pub text : take r after ≡ take at before ++ item
+  pub room : r ≤ at + most
+
+-- the digit that counts a unit, a power of ten; none where the number is smaller
+abbrev pub digitAt : ℕ → ℕ → List ℕ
+digitAt n unit = when (leb unit n) (digit (n / unit % 10) ∷ [])
+
+-- where the code's table has the name of a register type: types 1, 2 and 3 have a second one, for a fragment program, after the first seven
+abbrev pub nameRow : ℕ → ℕ → ℕ
+nameRow stage kind = cond (eqb stage 1 && leb 1 kind && leb kind 3) (6 + kind) kind
+
+-- every name has two letters, but for `v`
+abbrev pub nameLetters : ℕ → ℕ
+nameLetters kind = cond (eqb kind 4) 1 2
+
+-- as many bytes as an operand's text has at most, with five digits to a number
+abbrev pub operandRoom : Operand → ℕ
+operandRoom NoOperand = 0
+operandRoom (Direct s) = 13
+operandRoom (Indexed s) = 25
+operandRoom (Sampled s) = 52
+
+-- what is known of a record that has a line; 77 bytes are a sampler after an indexed source
+pub record Nameable (t : Token) (s d : ℕ) : Type 0 where
+  pub opcode : isListed (t .opcode) ≡ true
+  pub stage : s ≤ 1
+  pub depth : d ≤ 16
+  pub destination : destinationHasNames (t .destination) ≡ true
+  pub source1 : operandHasNames (t .source1) ≡ true
+  pub source2 : operandHasNames (t .source2) ≡ true
+  pub room : operandRoom (t .source1) + operandRoom (t .source2) ≤ 77

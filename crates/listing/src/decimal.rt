@@ -1,0 +1,54 @@
+// Numbers in decimal, without leading zeros.
+ghost use mathlib.Core.Path.{_≡_};
+ghost use Prim.Native.Nat.{_+_, _≤_, _<_};
+ghost use lib.ListN.{length};
+ghost use Rattle.listing.specs.Decimal.{decimal, signedDecimal, isNegative, magnitude as magnitudeOf};
+ghost use Rattle.listing.specs.Writers.{Appends, digitAt};
+use crate::text;
+
+// A number of 0 to 65535, which has at most five digits: each unit's digit in turn, from the largest unit that the number reaches.
+pub(crate) fn put_decimal(out: &mut [u8], at: usize, n: u16) -> usize
+    requires { ⌜ at + 5 ≤ length (now out) ⌝ }
+    ensures { λ r. ⌜ Appends (decimal n) 5 at (now (out .entry)) (now (out .exit)) r ⌝ }
+{
+    let a = put_digit(out, at, n, 10000);
+    let b = put_digit(out, a, n, 1000);
+    let c = put_digit(out, b, n, 100);
+    let d = put_digit(out, c, n, 10);
+    text::put_byte(out, d, 48 + (n % 10) as u8)
+}
+
+// The digit that counts a unit, nothing where the number is smaller than the unit.
+fn put_digit(out: &mut [u8], at: usize, n: u16, unit: u16) -> usize
+    requires { ⌜ at + 1 ≤ length (now out) ⌝ }
+    requires { ⌜ 0 < unit ⌝ }
+    ensures { λ r. ⌜ Appends (digitAt n unit) 1 at (now (out .entry)) (now (out .exit)) r ⌝ }
+{
+    text::put_when(out, at, unit <= n, 48 + (n / unit % 10) as u8)
+}
+
+pub(crate) fn put_signed(out: &mut [u8], at: usize, value: i8) -> usize
+    requires { ⌜ at + 6 ≤ length (now out) ⌝ }
+    ensures { λ r. ⌜ Appends (signedDecimal value) 6 at (now (out .entry)) (now (out .exit)) r ⌝ }
+{
+    let p = text::put_when(out, at, is_negative(value), b'-');
+    put_decimal(out, p, magnitude(value))
+}
+
+fn is_negative(value: i8) -> bool
+    ensures { λ r. ⌜ r ≡ isNegative value ⌝ }
+{
+    value < 0
+}
+
+// The number without its sign. It is wider than the value, since the magnitude of -128 is no i8.
+fn magnitude(value: i8) -> u16
+    ensures { λ r. ⌜ r ≡ magnitudeOf value ⌝ }
+{
+    let wide = value as i16;
+    if wide < 0 {
+        (0 - wide) as u16
+    } else {
+        wide as u16
+    }
+}

@@ -1,0 +1,127 @@
+-- `record_fault` meets its contract.
+-- Assumes nothing.
+use borrow.Author.Tests.{eq-eqb, ne-eqb}
+use Rattle.verifier.proofs.FaultLaws.{staged}
+use borrow.Author.Needs.{needs}
+use Rattle.verifier.proofs.faults.record_fault.Statement.{statement}
+use Rattle.verifier.proofs.faults.record_fault.Tie as tie
+
+destination-wrong-requires : tie.Need-destination-wrong-requires
+destination-wrong-requires c κs = search needs
+
+refusal-requires : tie.Need-refusal-requires
+refusal-requires c κs = search needs
+
+returns : tie.Need-returns
+returns c =
+    let a = c .before .before .before .args in
+    simp (
+      staged (a .profile) (a .token) (a .t),
+      ← c .before .before .destination-wrong .ensures,
+      c .before .if1 .taken,
+      c .refusal .ensures,
+    )
+
+mask-wrong-requires : tie.Need-mask-wrong-requires
+mask-wrong-requires c κs = search needs
+
+refusal-requires-2 : tie.Need-refusal-requires-2
+refusal-requires-2 c κs = search needs
+
+returns-2 : tie.Need-returns-2
+returns-2 c =
+    let a = c .before .before .before .before .before .args in
+    simp (
+      staged (a .profile) (a .token) (a .t),
+      ← c .before .before .before .before .destination-wrong .ensures,
+      c .before .before .before .if1 .left,
+      ← c .before .before .mask-wrong .ensures,
+      c .before .if2 .taken,
+      c .refusal2 .ensures,
+    )
+
+source-fault-requires : tie.Need-source-fault-requires
+source-fault-requires c κs = search needs
+
+refusal-requires-3 : tie.Need-refusal-requires-3
+refusal-requires-3 c κs = search needs
+
+returns-3 : tie.Need-returns-3
+returns-3 c =
+    let a = c .before .before .before .before .before .before .before .args in
+    simp (
+      staged (a .profile) (a .token) (a .t),
+      ← c .before .before .before .before .before .before .destination-wrong .ensures,
+      c .before .before .before .before .before .if1 .left,
+      ← c .before .before .before .before .mask-wrong .ensures,
+      c .before .before .before .if2 .left,
+      ← c .before .before .source-fault .ensures,
+      ne-eqb _ _ (c .before .if3 .taken),
+      c .refusal3 .ensures,
+    )
+
+rows2-requires : tie.Need-rows2-requires
+rows2-requires c κs = search needs
+
+source-fault-requires-2 : tie.Need-source-fault-requires-2
+source-fault-requires-2 c κs = search needs
+
+refusal-requires-4 : tie.Need-refusal-requires-4
+refusal-requires-4 c κs = search needs
+
+returns-4 : tie.Need-returns-4
+returns-4 c =
+    let a = c .before .before .before .before .before .before .before .before .before .before .args in
+    simp (
+      staged (a .profile) (a .token) (a .t),
+      ← c .before .before .before .before .before .before .before .before .before .destination-wrong .ensures,
+      c .before .before .before .before .before .before .before .before .if1 .left,
+      ← c .before .before .before .before .before .before .before .mask-wrong .ensures,
+      c .before .before .before .before .before .before .if2 .left,
+      ← c .before .before .before .before .before .source-fault .ensures,
+      eq-eqb _ _ (c .before .before .before .before .if3 .left),
+      ← c .before .before .before .rows2 .ensures,
+      ← c .before .before .source-fault2 .ensures,
+      ne-eqb _ _ (c .before .if4 .taken),
+      c .refusal4 .ensures,
+    )
+
+refusal-requires-5 : tie.Need-refusal-requires-5
+refusal-requires-5 c κs = search needs
+
+returns-5 : tie.Need-returns-5
+returns-5 c =
+    let a = c .before .before .before .before .before .before .before .before .before .before .args in
+    simp (
+      staged (a .profile) (a .token) (a .t),
+      ← c .before .before .before .before .before .before .before .before .before .destination-wrong .ensures,
+      c .before .before .before .before .before .before .before .before .if1 .left,
+      ← c .before .before .before .before .before .before .before .mask-wrong .ensures,
+      c .before .before .before .before .before .before .if2 .left,
+      ← c .before .before .before .before .before .source-fault .ensures,
+      eq-eqb _ _ (c .before .before .before .before .if3 .left),
+      ← c .before .before .before .rows2 .ensures,
+      ← c .before .before .source-fault2 .ensures,
+      eq-eqb _ _ (c .before .if4 .left),
+      c .refusal5 .ensures,
+    )
+
+pub record-fault-spec : {M : Type 1} → statement M
+record-fault-spec =
+    tie.close
+    (tie.spec
+    destination-wrong-requires
+    refusal-requires
+    returns
+    mask-wrong-requires
+    refusal-requires-2
+    returns-2
+    source-fault-requires
+    refusal-requires-3
+    returns-3
+    rows2-requires
+    source-fault-requires-2
+    refusal-requires-4
+    returns-4
+    refusal-requires-5
+    returns-5)
