@@ -3,3 +3,4 @@ pub mod Order
 pub mod Profile
 pub mod Rules
 pub mod State
+pub mod Step

@@ -4,3 +4,4 @@ mod faults;
 pub mod profile;
 mod rules;
 pub mod state;
+pub mod step;

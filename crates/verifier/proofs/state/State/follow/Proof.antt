@@ -1,0 +1,127 @@
+-- `follow` meets its contract.
+-- Assumes nothing.
+use Rattle.verifier.specs.Step.{followOf}
+use borrow.Author.Needs.{needs}
+use Rattle.verifier.proofs.state.State.follow.Statement.{statement}
+use Rattle.verifier.proofs.state.State.follow.Tie as tie
+
+flow-of-requires : tie.Need-flow-of-requires
+flow-of-requires c κs = search needs
+
+is-misplaced-requires : tie.Need-is-misplaced-requires
+is-misplaced-requires c κs = search needs
+
+refusal-requires : tie.Need-refusal-requires
+refusal-requires c κs = search needs
+
+returns : tie.Need-returns
+unfolding followOf
+returns c =
+    simp (
+      ← c .before .before .before .flow-of .ensures,
+      ← c .before .before .is-misplaced .ensures,
+      c .before .if1 .taken,
+      c .refusal .ensures,
+    )
+
+met-requires : tie.Need-met-requires
+met-requires c κs = search needs
+
+access1-requires : tie.Need-access1-requires
+access1-requires c κs = search needs
+
+lacks-access-requires : tie.Need-lacks-access-requires
+lacks-access-requires c κs = search needs
+
+refusal-requires-2 : tie.Need-refusal-requires-2
+refusal-requires-2 c κs = search needs
+
+returns-2 : tie.Need-returns-2
+unfolding followOf
+returns-2 c =
+    simp (
+      ← c .before .before .before .before .before .before .before .before .flow-of .ensures,
+      ← c .before .before .before .before .before .before .before .is-misplaced .ensures,
+      c .before .before .before .before .before .before .if1 .left,
+      ← c .before .before .before .before .before .met .ensures,
+      ← c .before .before .before .access1 .ensures,
+      ← c .before .before .lacks-access .ensures,
+      c .before .if2 .taken,
+      c .refusal2 .ensures,
+    )
+
+access2-requires : tie.Need-access2-requires
+access2-requires c κs = search needs
+
+lacks-access-requires-2 : tie.Need-lacks-access-requires-2
+lacks-access-requires-2 c κs = search needs
+
+refusal-requires-3 : tie.Need-refusal-requires-3
+refusal-requires-3 c κs = search needs
+
+returns-3 : tie.Need-returns-3
+unfolding followOf
+returns-3 c =
+    simp (
+      ← c .before .before .before .before .before .before .before .before .before .before .before .flow-of .ensures,
+      ← c .before .before .before .before .before .before .before .before .before .before .is-misplaced .ensures,
+      c .before .before .before .before .before .before .before .before .before .if1 .left,
+      ← c .before .before .before .before .before .before .before .before .met .ensures,
+      ← c .before .before .before .before .before .before .access1 .ensures,
+      ← c .before .before .before .before .before .lacks-access .ensures,
+      c .before .before .before .before .if2 .left,
+      ← c .before .before .before .access2 .ensures,
+      ← c .before .before .lacks-access2 .ensures,
+      c .before .if3 .taken,
+      c .refusal3 .ensures,
+    )
+
+refusal-requires-4 : tie.Need-refusal-requires-4
+refusal-requires-4 c κs = search needs
+
+wrote-requires : tie.Need-wrote-requires
+wrote-requires c κs = search needs
+
+parted-requires : tie.Need-parted-requires
+parted-requires c κs = search needs
+
+returns-4 : tie.Need-returns-4
+unfolding followOf
+returns-4 c =
+    simp (
+      ← c .before .before .before .before .before .before .before .before .before .before .before .before .before .flow-of .ensures,
+      ← c .before .before .before .before .before .before .before .before .before .before .before .before .is-misplaced .ensures,
+      c .before .before .before .before .before .before .before .before .before .before .before .if1 .left,
+      ← c .before .before .before .before .before .before .before .before .before .before .met .ensures,
+      ← c .before .before .before .before .before .before .before .before .access1 .ensures,
+      ← c .before .before .before .before .before .before .before .lacks-access .ensures,
+      c .before .before .before .before .before .before .if2 .left,
+      ← c .before .before .before .before .before .access2 .ensures,
+      ← c .before .before .before .before .lacks-access2 .ensures,
+      c .before .before .before .if3 .left,
+      c .before .before .refusal4 .ensures,
+      ← c .before .wrote .ensures,
+      ← c .parted .ensures,
+    )
+
+pub follow-spec : {M : Type 1} → statement M
+follow-spec =
+    tie.close
+    (tie.spec
+    flow-of-requires
+    is-misplaced-requires
+    refusal-requires
+    returns
+    met-requires
+    access1-requires
+    lacks-access-requires
+    refusal-requires-2
+    returns-2
+    access2-requires
+    lacks-access-requires-2
+    refusal-requires-3
+    returns-3
+    refusal-requires-4
+    wrote-requires
+    parted-requires
+    returns-4)
