@@ -1,2 +1,5 @@
+pub mod Abstract
 pub mod Added
 pub mod FaultLaws
+pub mod NextState
+pub mod Stack
