@@ -7,7 +7,7 @@ use mathlib.Core.Path.{_≡_, refl, _∙_, sym, ap}
 use native.Mathlib.Omega.{arith}
 use lib.Dec.{eqb}
 use lib.ListN.{length}
-use borrow.Author.Tests.{eq-eqb, ne-eqb, eqb-true, not-false}
+use borrow.Author.Tests.{eq-eqb, ne-eqb, eqb-true, eqb-false, not-false}
 use Rattle.bytecode.specs.Opcodes.{shapeOf}
 use Rattle.bytecode.specs.Fields.{fieldsOf}
 use Rattle.bytecode.specs.Layout.{destinationBits, operandBits, isStray}
@@ -90,10 +90,16 @@ chain-none false false true p q e = absurd (omega (arith, ap (λ r. r .number) e
 chain-none false false false p q e = (refl, refl, refl)
 
 module _ (s : Shape) (f : Fields) where
+  -- each of the three tests of a token without a fault
+  pub none-broken : tokenFault s f ≡ noRefusal
+      → (not (s .listed) ≡ false) × (not (eqb (unusedPart s f) 0) ≡ false) × (not (eqb (undefinedPart s f) 0) ≡ false)
+  unfolding tokenFault chain
+  none-broken e = chain-none (not (s .listed)) (not (eqb (unusedPart s f) 0)) (not (eqb (undefinedPart s f) 0)) (unusedPart s f) (undefinedPart s f) e
+
   pub clean : tokenFault s f ≡ noRefusal → Clean s f
-  unfolding tokenFault chain unusedPart undefinedPart
+  unfolding unusedPart undefinedPart
   clean e =
-      let (l, u, v) = chain-none (not (s .listed)) (not (eqb (unusedPart s f) 0)) (not (eqb (undefinedPart s f) 0)) (unusedPart s f) (undefinedPart s f) e in
+      let (l, u, v) = none-broken e in
       let (ud, u1, u2) = lowest-none _ _ _ (eqb-true (unusedPart s f) 0 (not-false _ u)) in
       let (vd, v1, v2) = lowest-none _ _ _ (eqb-true (undefinedPart s f) 0 (not-false _ v)) in
       record {
@@ -129,3 +135,17 @@ accepted s t e = go (eqb (length s) 24) refl e
         within false n k = let z : _≡_ {A = ℕ} 0 1 = cc in absurd (omega arith)
         within true n k =
             (eqb-true (length s) 24 l, no-fault (shapeOf (fieldsOf s .opcode)) (fieldsOf s) (eqb-true _ 0 n), cc)
+
+-- a refused token of 24 bytes has a fault, which is the answer
+pub was-refused : (s : List ℕ) (r : Refusal) → length s ≡ 24 → decodeOf s ≡ Refused r
+    → (r ≡ tokenFault (shapeOf (fieldsOf s .opcode)) (fieldsOf s)) × (r .number ≡ 0 → ⊥)
+unfolding decodeOf decodeFault
+was-refused s r h e = go (eqb (tokenFault (shapeOf (fieldsOf s .opcode)) (fieldsOf s) .number) 0) refl (rw (eq-eqb (length s) 24 h) at e)
+  where
+    go : (b : Bool) → eqb (tokenFault (shapeOf (fieldsOf s .opcode)) (fieldsOf s) .number) 0 ≡ b
+        → cond b (Accepted (tokenOf (shapeOf (fieldsOf s .opcode)) (fieldsOf s))) (Refused (tokenFault (shapeOf (fieldsOf s .opcode)) (fieldsOf s))) ≡ Refused r
+        → (r ≡ tokenFault (shapeOf (fieldsOf s .opcode)) (fieldsOf s)) × (r .number ≡ 0 → ⊥)
+    go true n k = let z : _≡_ {A = ℕ} 0 1 = cc in absurd (omega arith)
+    go false n k =
+        let q : tokenFault (shapeOf (fieldsOf s .opcode)) (fieldsOf s) ≡ r = cc in
+        (sym q, λ z. eqb-false _ 0 n (ap (λ x. x .number) q ∙ z))

@@ -2,4 +2,5 @@ pub mod Abstract
 pub mod Added
 pub mod FaultLaws
 pub mod NextState
+pub mod OwnFault
 pub mod Stack
