@@ -4,3 +4,4 @@ pub mod FaultLaws
 pub mod NextState
 pub mod OwnFault
 pub mod Stack
+pub mod StepLaw

@@ -51,7 +51,7 @@ wrote-is s (Masked r) h =
 
 -- ---- the state by its parts
 
-abbrev nextAbstract : check.State → Flow → ℕ → ComponentSet → check.State
+abbrev pub nextAbstract : check.State → Flow → ℕ → ComponentSet → check.State
 nextAbstract a f n after =
     record {
       openBranches = branchesAfter f n (a .openBranches);

@@ -1,0 +1,154 @@
+-- One step of the code is one token of the check over paths.
+-- Assumes nothing.
+use Prim.Native.Nat.{ℕ, zero, suc, _≤_, _<_}
+use mathlib.Core.Bool.{Bool, true, false, not, cond, _||_, _&&_}
+use mathlib.Core.List.{List, [], _∷_}
+use mathlib.Core.Option.{Option, none, some}
+use mathlib.Core.Path.{_≡_, refl, _∙_, sym, ap, subst}
+use native.Mathlib.Decide.{decLt}
+use native.Mathlib.Omega.{arith}
+use lib.Dec.{T, eqb, leb, ltb, leb→le}
+use lib.ListN.{length, getD}
+use borrow.Author.Tests.{eq-eqb, ne-eqb, eqb-true, leb-false}
+use Rattle.bytecode.specs.Decode.{refusal, noRefusal, decodeOf}
+use Rattle.bytecode.specs.declared.answers.Refusal.{Refusal}
+use Rattle.bytecode.specs.declared.answers.Decoded.{Decoded}
+use Rattle.bytecode.specs.declared.answers.Decoded.the-variants.{Token as Accepted, Refused}
+use Rattle.bytecode.specs.declared.record.Destination.{Destination}
+use Rattle.bytecode.specs.declared.record.Destination.the-variants.{Unused as NoDestination, Masked}
+use Rattle.bytecode.specs.declared.record.Token.{Token}
+use Rattle.bytecode.proofs.DecodeLaws.{was-refused}
+use Rattle.registers.specs.Counts.{countOf}
+use Rattle.registers.specs.Uses.{isWritable}
+use Rattle.registers.proofs.Outside.{outside-stage, outside-edition}
+use Rattle.laws.specs.Tests.{every}
+use Rattle.laws.proofs.Every.{below}
+use Rattle.paths.specs.Paths.{TokenFault, PathToken, source1, source2}
+use Rattle.paths.specs.Nesting.{misplaced}
+use Rattle.paths.specs.Faults.{Answer, accepted, refused}
+use Rattle.paths.specs.Reads.{reads1, reads2, writesInto, temporaries}
+use Rattle.paths.specs.Tokens.{flowOf, pathTokenOf}
+use Rattle.paths.specs.Access.{access1Of, access2Of}
+use Rattle.paths.specs.Unwritten.{adds}
+use Rattle.paths.specs.Written.{componentSet}
+use Rattle.paths.specs.Check as check
+use Rattle.paths.specs.Check.{judge, lacks, setBefore, nextState, currentAt, checkFrom}
+use Rattle.paths.proofs.AccessLaws.{lacks-reads1, lacks-reads2}
+use Rattle.verifier.specs.Rules.{destinationWrong}
+use Rattle.verifier.specs.Profile.{profileOf}
+use Rattle.verifier.specs.Order.{firstFault, tokenRules, recordOf, pathTokenAt}
+use Rattle.verifier.specs.Faults.{refusalAt, ownFault, undecodedFault}
+use Rattle.verifier.specs.State.{flowOfCode, isMisplaced, metState, partedState}
+use Rattle.verifier.specs.Step.{stepped, lacksAccess, nextOf, followOf, takeOf, decidedOf, stepOf}
+use Rattle.verifier.specs.declared.state.Flow as code
+use Rattle.verifier.specs.declared.state.State.{State}
+use Rattle.verifier.specs.declared.step.Stepped.{Stepped}
+use Rattle.verifier.proofs.Abstract.{abstractOf, branchesIn, keptIn, flowIs, flow-is, misplaced-is, Valid}
+use Rattle.verifier.proofs.NextState.{Kept, wrote-is, nextAbstract, follows}
+use Rattle.verifier.proofs.OwnFault.{token-numbered, refused-fault, taken-fault}
+
+-- what a step means for the answer: its fault, or what the tokens that are left make of the next state
+abbrev pub after : Stepped → ℕ → List PathToken → Answer
+after r n rest =
+    cond (eqb (r .fault .number) 0) (checkFrom (abstractOf (r .state)) (suc n) rest) (refused (r .fault .number) (r .fault .token) (r .fault .part))
+
+-- ---- a written temporary is kept
+
+temporary-count : (edition stage : ℕ) → countOf 2 edition stage ≤ 26
+unfolding countOf
+temporary-count edition stage =
+    elim (decLt edition 4) [
+      | yes e ↦ elim (decLt stage 2) [
+        | yes s ↦ leb→le (countOf 2 edition stage) 26 (below (λ s. leb (countOf 2 edition s) 26) 2 (below (λ e. every (λ s. leb (countOf 2 e s) 26) 2) 4 tt edition e) stage s)
+        | no s ↦ rw (outside-stage 2 edition stage (omega (arith, s))) (omega arith)
+      ]
+      | no e ↦ rw (outside-edition 2 edition stage (omega (arith, e))) (omega arith)
+    ]
+
+or-right : (a b : Bool) → (a || b) ≡ false → b ≡ false
+or-right true b e = absurd (mathlib.Core.Bool.true≢false e)
+or-right false b e = e
+
+kept : (edition stage : ℕ) (d : Destination) → destinationWrong (λ k. countOf k edition stage) stage d ≡ false → Kept d
+kept edition stage NoDestination e = tt
+kept edition stage (Masked r) e =
+    λ k.
+      let h = leb-false (countOf (r .kind) edition stage) (r .number) (or-right (not (isWritable (r .kind) stage)) (leb (countOf (r .kind) edition stage) (r .number)) e) in
+      let q = ap (λ x. countOf x edition stage) k in
+      omega (arith, temporary-count edition stage)
+
+-- ---- 20, 21 and the next state, of a record with no fault of its own
+
+module _ (st : State) (v : Valid st) (n : ℕ) (t : Token) (rest : List PathToken) where
+  abbrev pub pt : PathToken
+  pt = pathTokenOf none t
+
+  abbrev f : code.Flow
+  f = flowOfCode (t .opcode)
+
+  misplaced-at : misplaced (flowOf (t .opcode)) (branchesIn st) ≡ isMisplaced st f
+
+  misplaced-at = ap (λ g. misplaced g (branchesIn st)) (sym (flow-is (t .opcode))) ∙ sym (misplaced-is st v f)
+
+  module _ (m : isMisplaced st f ≡ false) where
+    before-is : currentAt (flowOf (t .opcode)) (componentSet (st .current)) (keptIn st) ≡ componentSet (metState st f .current)
+
+    before-is = ap (λ g. currentAt g (componentSet (st .current)) (keptIn st)) (sym (flow-is (t .opcode))) ∙ sym (follows st n v f m .before)
+
+    lacks1 : lacks (setBefore pt (abstractOf st)) (temporaries (reads1 t)) ≡ lacksAccess (metState st f .current) (access1Of t)
+
+    lacks1 = ap (λ w. lacks w (temporaries (reads1 t))) before-is ∙ lacks-reads1 (metState st f .current) t
+
+    lacks2 : lacks (setBefore pt (abstractOf st)) (temporaries (reads2 t)) ≡ lacksAccess (metState st f .current) (access2Of t)
+
+    lacks2 = ap (λ w. lacks w (temporaries (reads2 t))) before-is ∙ lacks-reads2 (metState st f .current) t
+
+  next-is : isMisplaced st f ≡ false → Kept (t .destination) → (nextState (abstractOf st) n pt ≡ abstractOf (nextOf st n t)) × Valid (nextOf st n t)
+
+  next-is m k =
+      let (w, e, c) = wrote-is (metState st f) (t .destination) k in
+      let g = follows st n v f m in
+      let o = flowOf (t .opcode) in
+      let set : adds (currentAt o (componentSet (st .current)) (keptIn st)) (temporaries (writesInto (t .destination))) ≡ componentSet w = ap (λ b. adds b (temporaries (writesInto (t .destination)))) (before-is m) ∙ sym c in
+      (ap (nextAbstract (abstractOf st) o n) set
+      ∙ ap (λ x. nextAbstract (abstractOf st) x n (componentSet w)) (sym (flow-is (t .opcode)))
+      ∙ sym (g .after w)
+      ∙ ap (λ x. abstractOf (partedState x f n)) (sym e), subst (λ x. Valid (partedState x f n)) (sym e) (g .valid w))
+
+  -- the tests by their values
+  decided : (m a b : Bool) (later : Answer) → (m ≡ false → later ≡ checkFrom (abstractOf (nextOf st n t)) (suc n) rest)
+      → judge none m a b n later
+      ≡ after (cond m (stepped (refusal 20 n 0) st) (cond a (stepped (refusal 21 n 2) st) (cond b (stepped (refusal 21 n 3) st) (stepped noRefusal (nextOf st n t))))) n rest
+  decided true a b later k = refl
+  decided false true b later k = refl
+  decided false false true later k = refl
+  decided false false false later k = k refl
+
+  pub followed : Kept (t .destination) → checkFrom (abstractOf st) n (pt ∷ rest) ≡ after (followOf st n t) n rest
+  unfolding checkFrom followOf
+  followed k = go (isMisplaced st f) refl
+    where
+      go : (m : Bool) → isMisplaced st f ≡ m
+          → judge none (misplaced (flowOf (t .opcode)) (branchesIn st)) (lacks (setBefore pt (abstractOf st)) (temporaries (reads1 t))) (lacks (setBefore pt (abstractOf st)) (temporaries (reads2 t))) n (checkFrom (nextState (abstractOf st) n pt) (suc n) rest)
+          ≡ after (cond (isMisplaced st f) (stepped (refusal 20 n 0) st) (cond (lacksAccess (metState st f .current) (access1Of t)) (stepped (refusal 21 n 2) st) (cond (lacksAccess (metState st f .current) (access2Of t)) (stepped (refusal 21 n 3) st) (stepped noRefusal (nextOf st n t))))) n rest
+      go true e = rw (misplaced-at ∙ e, e)
+      go false e =
+          let b = lacks (setBefore pt (abstractOf st)) (temporaries (reads2 t)) in
+          let later = checkFrom (nextState (abstractOf st) n pt) (suc n) rest in
+          ap (λ m. judge none m (lacks (setBefore pt (abstractOf st)) (temporaries (reads1 t))) b n later) misplaced-at
+          ∙ ap (λ l. judge none (isMisplaced st f) l b n later) (lacks1 e)
+          ∙ ap (λ l. judge none (isMisplaced st f) (lacksAccess (metState st f .current) (access1Of t)) l n later) (lacks2 e)
+          ∙ decided (isMisplaced st f) (lacksAccess (metState st f .current) (access1Of t)) (lacksAccess (metState st f .current) (access2Of t)) later (λ m. ap (λ x. checkFrom x (suc n) rest) (next-is m k .0))
+
+  -- a step without a fault leaves a valid state
+  decided-valid : (m a b : Bool) → (m ≡ false → Valid (nextOf st n t))
+      → let r = cond m (stepped (refusal 20 n 0) st) (cond a (stepped (refusal 21 n 2) st) (cond b (stepped (refusal 21 n 3) st) (stepped noRefusal (nextOf st n t)))) in
+      Valid (r .state)
+  decided-valid true a b k = v
+  decided-valid false true b k = v
+  decided-valid false false true k = v
+  decided-valid false false false k = k refl
+
+  pub follow-valid : Kept (t .destination) → Valid (followOf st n t .state)
+  unfolding followOf
+  follow-valid k = decided-valid (isMisplaced st f) (lacksAccess (metState st f .current) (access1Of t)) (lacksAccess (metState st f .current) (access2Of t)) (λ m. next-is m k .1)
