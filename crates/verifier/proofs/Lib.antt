@@ -5,3 +5,4 @@ pub mod NextState
 pub mod OwnFault
 pub mod Stack
 pub mod StepLaw
+pub mod TokenLaw

@@ -69,7 +69,7 @@ or-right : (a b : Bool) → (a || b) ≡ false → b ≡ false
 or-right true b e = absurd (mathlib.Core.Bool.true≢false e)
 or-right false b e = e
 
-kept : (edition stage : ℕ) (d : Destination) → destinationWrong (λ k. countOf k edition stage) stage d ≡ false → Kept d
+pub kept : (edition stage : ℕ) (d : Destination) → destinationWrong (λ k. countOf k edition stage) stage d ≡ false → Kept d
 kept edition stage NoDestination e = tt
 kept edition stage (Masked r) e =
     λ k.

@@ -1,0 +1,125 @@
+-- One step of the code on the bytes of a token is one token of the check over paths.
+-- Assumes nothing.
+use Prim.Native.Nat.{ℕ, suc, _≤_}
+use mathlib.Core.Bool.{Bool, true, false, not, cond}
+use mathlib.Core.List.{List, [], _∷_}
+use mathlib.Core.Option.{Option, none, some, Option·some-ne-none}
+use mathlib.Core.Path.{_≡_, refl, _∙_, sym, ap, subst}
+use native.Mathlib.Omega.{arith}
+use lib.Dec.{eqb, ltb}
+use lib.ListN.{length, getD}
+use borrow.Author.Tests.{eq-eqb, ne-eqb}
+use Rattle.bytecode.specs.Decode.{refusal, noRefusal, decodeOf}
+use Rattle.bytecode.specs.declared.answers.Refusal.{Refusal}
+use Rattle.bytecode.specs.declared.answers.Decoded.{Decoded}
+use Rattle.bytecode.specs.declared.answers.Decoded.the-variants.{Token as Accepted, Refused}
+use Rattle.bytecode.specs.declared.record.Token.{Token}
+use Rattle.bytecode.proofs.DecodeLaws.{was-refused}
+use Rattle.registers.specs.Counts.{countOf}
+use Rattle.paths.specs.Paths.{TokenFault, PathToken}
+use Rattle.paths.specs.Faults.{Answer, refused}
+use Rattle.paths.specs.Tokens.{pathTokenOf}
+use Rattle.paths.specs.Check.{checkFrom}
+use Rattle.verifier.specs.Rules.{opcodeTooNew, opcodeNotForStage, destinationWrong}
+use Rattle.verifier.specs.Profile.{profileOf}
+use Rattle.verifier.specs.Order.{Rule, firstFault, tokenRules, recordOf, pathTokenAt}
+use Rattle.verifier.specs.Faults.{refusalAt, ownFault, undecodedFault}
+use Rattle.verifier.specs.Step.{stepped, followOf, takeOf, decidedOf, stepOf}
+use Rattle.verifier.specs.declared.profile.Profile.{Profile}
+use Rattle.verifier.specs.declared.state.State.{State}
+use Rattle.verifier.specs.declared.step.Stepped.{Stepped}
+use Rattle.verifier.proofs.Abstract.{abstractOf, Valid}
+use Rattle.verifier.proofs.NextState.{Kept}
+use Rattle.verifier.proofs.OwnFault.{token-numbered, refused-fault, taken-fault}
+use Rattle.verifier.proofs.StepLaw.{after, kept, followed, follow-valid}
+
+-- ---- no rule is broken
+
+abbrev AllKept : List Rule → Type 0
+AllKept [] = Unit {0}
+AllKept (r ∷ rs) = (r .broken ≡ false) × AllKept rs
+
+none-broken : (rs : List Rule) → firstFault rs ≡ none → AllKept rs
+none-broken [] e = tt
+none-broken (r ∷ rs) e = go (λ k. none-broken rs k) (r .broken) refl e
+  where
+    go : (firstFault rs ≡ none → AllKept rs) → (b : Bool) → r .broken ≡ b → cond b (some (record { number = r .number; part = r .part })) (firstFault rs) ≡ none → AllKept (r ∷ rs)
+    go ih true q k = absurd (Option·some-ne-none _ k)
+    go ih false q k = (q, ih k)
+
+-- the destination of a token with none of faults 9 to 19
+destination-right : (count : ℕ → ℕ) (edition stage : ℕ) (s : List ℕ) → firstFault (tokenRules count edition stage s) ≡ none
+    → destinationWrong count stage (recordOf s .destination) ≡ false
+destination-right count edition stage s e = none-broken (tokenRules count edition stage s) e .1 .1 .1 .1 .1 .0
+
+-- ---- a refused token has a fault
+
+undecoded-fault : (profile : Profile) (n : ℕ) (r : Refusal) (o : ℕ) → (r .number ≡ 0 → ⊥) → undecodedFault profile n r o .number ≡ 0 → ⊥
+unfolding undecodedFault
+undecoded-fault profile n r o z = go (ltb (r .number) 12) (opcodeTooNew (profile .edition) o) (opcodeNotForStage (profile .stage) o)
+  where
+    go : (a b c : Bool) → cond a (refusal (r .number) n (r .part)) (cond b (refusal 10 n 0) (cond c (refusal 11 n 0) (refusal (r .number) n (r .part)))) .number ≡ 0 → ⊥
+    go true b c e = z e
+    go false true c e = omega (arith, e)
+    go false false true e = omega (arith, e)
+    go false false false e = z e
+
+module _ (edition stage n : ℕ) (s : List ℕ) (h : length s ≡ 24) (st : State) (v : Valid st) (rest : List PathToken) where
+  -- the token's own fault
+  abbrev own : Option TokenFault
+  own = firstFault (tokenRules (λ k. countOf k edition stage) edition stage s)
+
+  abbrev profile : Profile
+  profile = profileOf edition stage
+
+  -- a fault of the token is the answer
+  at-fault : (f : TokenFault) → own ≡ some f → (u : Refusal) → refusalAt n own ≡ u
+      → (checkFrom (abstractOf st) n (pathTokenOf own (recordOf s) ∷ rest) ≡ after (stepped u st) n rest) × (u .number ≡ 0 → ⊥)
+  unfolding checkFrom
+  at-fault f e u q =
+      let k = token-numbered (λ k. countOf k edition stage) edition stage s f e in
+      let p : u ≡ refusal (f .number) n (f .part) = sym q ∙ ap (refusalAt n) e in
+      (rw (p, e, ne-eqb (f .number) 0 (λ z. omega (arith, z))), λ z. omega (arith, sym (ap (λ x. x .number) p) ∙ z))
+
+  -- what is shown of a step
+  Steps : Stepped → Type 0
+  Steps r = (checkFrom (abstractOf st) n (pathTokenOf own (recordOf s) ∷ rest) ≡ after r n rest) × Valid (r .state)
+
+  when-refused : (r : Refusal) → decodeOf s ≡ Refused r → Steps (stepped (undecodedFault profile n r (getD s 0 0)) st)
+  unfolding Steps
+  when-refused r e = go own refl
+    where
+      q : refusalAt n own ≡ undecodedFault profile n r (getD s 0 0)
+      q = refused-fault edition stage n s h r e
+      go : (o : Option TokenFault) → own ≡ o → (checkFrom (abstractOf st) n (pathTokenOf own (recordOf s) ∷ rest) ≡ after (stepped (undecodedFault profile n r (getD s 0 0)) st) n rest) × Valid st
+      go none k = absurd (undecoded-fault profile n r (getD s 0 0) (was-refused s r h e .1) (sym (ap (λ x. x .number) (sym (ap (refusalAt n) k) ∙ q))))
+      go (some f) k = (at-fault f k _ q .0, v)
+
+  when-taken : (t : Token) → decodeOf s ≡ Accepted t → Steps (takeOf st profile n t)
+  unfolding Steps takeOf
+  when-taken t e = go own refl
+    where
+      p : t ≡ recordOf s
+      p = taken-fault edition stage n s h t e .0
+      q : refusalAt n own ≡ ownFault profile n t
+      q = taken-fault edition stage n s h t e .1
+      go : (o : Option TokenFault) → own ≡ o
+          → (checkFrom (abstractOf st) n (pathTokenOf own (recordOf s) ∷ rest) ≡ after (cond (eqb (ownFault profile n t .number) 0) (followOf st n t) (stepped (ownFault profile n t) st)) n rest) × Valid ((cond (eqb (ownFault profile n t .number) 0) (followOf st n t) (stepped (ownFault profile n t) st)) .state)
+      go none k =
+          let z : ownFault profile n t .number ≡ 0 = ap (λ x. x .number) (sym q ∙ ap (refusalAt n) k) in
+          let d = subst (λ x. Kept (x .destination)) (sym p) (kept edition stage (recordOf s .destination) (destination-right (λ k. countOf k edition stage) edition stage s k)) in
+          rw (eq-eqb (ownFault profile n t .number) 0 z)
+          (ap (λ o. checkFrom (abstractOf st) n (pathTokenOf o (recordOf s) ∷ rest)) k
+          ∙ ap (λ x. checkFrom (abstractOf st) n (pathTokenOf none x ∷ rest)) (sym p)
+          ∙ followed st v n t rest d, follow-valid st v n t rest d)
+      go (some f) k =
+          let (a, z) = at-fault f k _ q in
+          rw (ne-eqb (ownFault profile n t .number) 0 z) (a, v)
+
+  pub steps : (checkFrom (abstractOf st) n (pathTokenAt (λ k. countOf k edition stage) edition stage s ∷ rest) ≡ after (stepOf st profile n s) n rest) × Valid (stepOf st profile n s .state)
+  unfolding Steps
+  steps = go (decodeOf s) refl
+    where
+      go : (d : Decoded) → decodeOf s ≡ d → Steps (decidedOf st profile n s d)
+      go (Accepted t) e = when-taken t e
+      go (Refused r) e = when-refused r e
