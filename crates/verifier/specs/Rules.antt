@@ -21,7 +21,7 @@ use Rattle.paths.specs.Reads.{bitOf, nrm, crs, m33, m34, m44}
 
 -- 1: edition not 1, 2, 3
 abbrev pub editionUnknown : ℕ → Bool
-editionUnknown edition = not (isIn edition (1 ∷ 2 ∷ 3 ∷ []))
+editionUnknown edition = not (eqb edition 1 || eqb edition 2 || eqb edition 3)
 
 -- 2: under 7 bytes
 abbrev pub headerMissing : List ℕ → Bool
