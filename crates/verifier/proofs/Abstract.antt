@@ -112,7 +112,7 @@ flow-is o =
 
 -- a valid state with no branch, or with d + 1
 module _ (st : State) (v : Valid st) where
-  inside : (d : ℕ) → st .depth ≡ suc d → topOf st ≡ getD (st .branches) d blankBranch
+  pub inside : (d : ℕ) → st .depth ≡ suc d → topOf st ≡ getD (st .branches) d blankBranch
   unfolding topOf
   inside d e =
       let h = v .depth in

@@ -87,7 +87,7 @@ module _ (profile : Profile) (token : ℕ) (t : Token) where
 
   pub staged : recordFault profile token t
       ≡ cond (destinationWrong (countIn profile) (profile .stage) (t .destination)) (refusal 14 token 1)
-        (cond (maskWrong (t .opcode) (t .destination)) (refusal 15 token 1) (sourcesFault token fault1 fault2))
+      (cond (maskWrong (t .opcode) (t .destination)) (refusal 15 token 1) (sourcesFault token fault1 fault2))
   unfolding recordFault
   staged = go (destinationWrong (countIn profile) (profile .stage) (t .destination)) (maskWrong (t .opcode) (t .destination))
     where

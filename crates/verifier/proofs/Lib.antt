@@ -1,6 +1,9 @@
 pub mod Abstract
 pub mod Added
+pub mod ExactCheck
 pub mod FaultLaws
+pub mod HeaderLaw
+pub mod LoopLaw
 pub mod NextState
 pub mod OwnFault
 pub mod Stack

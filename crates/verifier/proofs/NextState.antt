@@ -56,7 +56,7 @@ nextAbstract a f n after =
     record {
       openBranches = branchesAfter f n (a .openBranches);
       current = after;
-      kept = keptAfter f after (keptAt f (a .current) (a .kept))
+      kept = keptAfter f after (keptAt f (a .current) (a .kept));
     }
 
 -- what a token makes of a valid state, where the set after its write is w
@@ -81,7 +81,7 @@ module _ (st : State) (n : ℕ) (v : Valid st) where
             (ap₂ (λ bs ks. record { openBranches = bs; current = componentSet w; kept = ks })
             (over branchOf blankBranch (st .branches) (st .depth) (record { opener = n; «els_met» = false; kept = w }) (omega arith))
             (over keptOf blankBranch (st .branches) (st .depth) (record { opener = n; «els_met» = false; kept = w }) (omega arith)));
-        valid = λ w. rw m (record { depth = omega arith; room = simp length-set r })
+        valid = λ w. rw m (record { depth = omega arith; room = simp length-set r });
       }
 
   -- the innermost of d + 1 branches
@@ -112,7 +112,7 @@ module _ (st : State) (n : ℕ) (v : Valid st) where
               (ap₂ (λ bs ks. record { openBranches = bs; current = componentSet w; kept = ks })
               (over branchOf blankBranch (st .branches) d b (omega (arith, d<16)))
               (over keptOf blankBranch (st .branches) d b (omega (arith, d<16))));
-          valid = λ w. rw exchanged-is (record { depth = d<16; room = simp length-set r })
+          valid = λ w. rw exchanged-is (record { depth = d<16; room = simp length-set r });
         }
 
     eif-follows : Follows st Eif n
@@ -121,7 +121,7 @@ module _ (st : State) (n : ℕ) (v : Valid st) where
         record {
           before = rw (joined-is, e) (fun-ext (in-join (st .current) (top .kept)));
           after = λ w. rw (joined-is, e);
-          valid = λ w. let h = v .depth in rw joined-is (record { depth = omega (arith, d<16); room = v .room })
+          valid = λ w. let h = v .depth in rw joined-is (record { depth = omega (arith, d<16); room = v .room });
         }
 
   pub follows : (f : code.Flow) → isMisplaced st f ≡ false → Follows st f n

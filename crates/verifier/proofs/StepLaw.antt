@@ -73,9 +73,9 @@ pub kept : (edition stage : ℕ) (d : Destination) → destinationWrong (λ k. c
 kept edition stage NoDestination e = tt
 kept edition stage (Masked r) e =
     λ k.
-      let h = leb-false (countOf (r .kind) edition stage) (r .number) (or-right (not (isWritable (r .kind) stage)) (leb (countOf (r .kind) edition stage) (r .number)) e) in
-      let q = ap (λ x. countOf x edition stage) k in
-      omega (arith, temporary-count edition stage)
+    let h = leb-false (countOf (r .kind) edition stage) (r .number) (or-right (not (isWritable (r .kind) stage)) (leb (countOf (r .kind) edition stage) (r .number)) e) in
+    let q = ap (λ x. countOf x edition stage) k in
+    omega (arith, temporary-count edition stage)
 
 -- ---- 20, 21 and the next state, of a record with no fault of its own
 
@@ -87,33 +87,30 @@ module _ (st : State) (v : Valid st) (n : ℕ) (t : Token) (rest : List PathToke
   f = flowOfCode (t .opcode)
 
   misplaced-at : misplaced (flowOf (t .opcode)) (branchesIn st) ≡ isMisplaced st f
-
   misplaced-at = ap (λ g. misplaced g (branchesIn st)) (sym (flow-is (t .opcode))) ∙ sym (misplaced-is st v f)
 
   module _ (m : isMisplaced st f ≡ false) where
     before-is : currentAt (flowOf (t .opcode)) (componentSet (st .current)) (keptIn st) ≡ componentSet (metState st f .current)
-
     before-is = ap (λ g. currentAt g (componentSet (st .current)) (keptIn st)) (sym (flow-is (t .opcode))) ∙ sym (follows st n v f m .before)
 
     lacks1 : lacks (setBefore pt (abstractOf st)) (temporaries (reads1 t)) ≡ lacksAccess (metState st f .current) (access1Of t)
-
     lacks1 = ap (λ w. lacks w (temporaries (reads1 t))) before-is ∙ lacks-reads1 (metState st f .current) t
 
     lacks2 : lacks (setBefore pt (abstractOf st)) (temporaries (reads2 t)) ≡ lacksAccess (metState st f .current) (access2Of t)
-
     lacks2 = ap (λ w. lacks w (temporaries (reads2 t))) before-is ∙ lacks-reads2 (metState st f .current) t
 
   next-is : isMisplaced st f ≡ false → Kept (t .destination) → (nextState (abstractOf st) n pt ≡ abstractOf (nextOf st n t)) × Valid (nextOf st n t)
-
   next-is m k =
       let (w, e, c) = wrote-is (metState st f) (t .destination) k in
       let g = follows st n v f m in
       let o = flowOf (t .opcode) in
-      let set : adds (currentAt o (componentSet (st .current)) (keptIn st)) (temporaries (writesInto (t .destination))) ≡ componentSet w = ap (λ b. adds b (temporaries (writesInto (t .destination)))) (before-is m) ∙ sym c in
-      (ap (nextAbstract (abstractOf st) o n) set
-      ∙ ap (λ x. nextAbstract (abstractOf st) x n (componentSet w)) (sym (flow-is (t .opcode)))
-      ∙ sym (g .after w)
-      ∙ ap (λ x. abstractOf (partedState x f n)) (sym e), subst (λ x. Valid (partedState x f n)) (sym e) (g .valid w))
+      let set : adds (currentAt o (componentSet (st .current)) (keptIn st)) (temporaries (writesInto (t .destination))) ≡ componentSet w = ap (λ b. adds b (temporaries (writesInto (t .destination)))) (before-is m) ∙ sym c in (
+        ap (nextAbstract (abstractOf st) o n) set
+            ∙ ap (λ x. nextAbstract (abstractOf st) x n (componentSet w)) (sym (flow-is (t .opcode)))
+            ∙ sym (g .after w)
+            ∙ ap (λ x. abstractOf (partedState x f n)) (sym e),
+        subst (λ x. Valid (partedState x f n)) (sym e) (g .valid w),
+      )
 
   -- the tests by their values
   decided : (m a b : Bool) (later : Answer) → (m ≡ false → later ≡ checkFrom (abstractOf (nextOf st n t)) (suc n) rest)

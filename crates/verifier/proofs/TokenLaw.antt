@@ -91,6 +91,7 @@ module _ (edition stage n : ℕ) (s : List ℕ) (h : length s ≡ 24) (st : Stat
     where
       q : refusalAt n own ≡ undecodedFault profile n r (getD s 0 0)
       q = refused-fault edition stage n s h r e
+
       go : (o : Option TokenFault) → own ≡ o → (checkFrom (abstractOf st) n (pathTokenOf own (recordOf s) ∷ rest) ≡ after (stepped (undecodedFault profile n r (getD s 0 0)) st) n rest) × Valid st
       go none k = absurd (undecoded-fault profile n r (getD s 0 0) (was-refused s r h e .1) (sym (ap (λ x. x .number) (sym (ap (refusalAt n) k) ∙ q))))
       go (some f) k = (at-fault f k _ q .0, v)
@@ -101,17 +102,21 @@ module _ (edition stage n : ℕ) (s : List ℕ) (h : length s ≡ 24) (st : Stat
     where
       p : t ≡ recordOf s
       p = taken-fault edition stage n s h t e .0
+
       q : refusalAt n own ≡ ownFault profile n t
       q = taken-fault edition stage n s h t e .1
+
       go : (o : Option TokenFault) → own ≡ o
           → (checkFrom (abstractOf st) n (pathTokenOf own (recordOf s) ∷ rest) ≡ after (cond (eqb (ownFault profile n t .number) 0) (followOf st n t) (stepped (ownFault profile n t) st)) n rest) × Valid ((cond (eqb (ownFault profile n t .number) 0) (followOf st n t) (stepped (ownFault profile n t) st)) .state)
       go none k =
           let z : ownFault profile n t .number ≡ 0 = ap (λ x. x .number) (sym q ∙ ap (refusalAt n) k) in
           let d = subst (λ x. Kept (x .destination)) (sym p) (kept edition stage (recordOf s .destination) (destination-right (λ k. countOf k edition stage) edition stage s k)) in
-          rw (eq-eqb (ownFault profile n t .number) 0 z)
-          (ap (λ o. checkFrom (abstractOf st) n (pathTokenOf o (recordOf s) ∷ rest)) k
-          ∙ ap (λ x. checkFrom (abstractOf st) n (pathTokenOf none x ∷ rest)) (sym p)
-          ∙ followed st v n t rest d, follow-valid st v n t rest d)
+          rw (eq-eqb (ownFault profile n t .number) 0 z) (
+            ap (λ o. checkFrom (abstractOf st) n (pathTokenOf o (recordOf s) ∷ rest)) k
+                ∙ ap (λ x. checkFrom (abstractOf st) n (pathTokenOf none x ∷ rest)) (sym p)
+                ∙ followed st v n t rest d,
+            follow-valid st v n t rest d,
+          )
       go (some f) k =
           let (a, z) = at-fault f k _ q in
           rw (ne-eqb (ownFault profile n t .number) 0 z) (a, v)

@@ -14,7 +14,7 @@ profileOf edition stage =
       stage = stage;
       counts =
           countOf 0 edition stage ∷ countOf 1 edition stage ∷ countOf 2 edition stage ∷ countOf 3 edition stage
-          ∷ countOf 4 edition stage ∷ countOf 5 edition stage ∷ countOf 6 edition stage ∷ []
+          ∷ countOf 4 edition stage ∷ countOf 5 edition stage ∷ countOf 6 edition stage ∷ [];
     }
 
 -- how many registers of a kind a profile has

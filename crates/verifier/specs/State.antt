@@ -61,7 +61,7 @@ exchangedState st =
       depth = st .depth;
       branches =
           set (st .branches) (st .depth - 1)
-          (record { opener = getD (st .branches) (st .depth - 1) blankBranch .opener; «els_met» = true; kept = st .current })
+          (record { opener = getD (st .branches) (st .depth - 1) blankBranch .opener; «els_met» = true; kept = st .current });
     }))
 
 -- eif joins the two and closes the branch
@@ -72,7 +72,7 @@ joinedState st =
     (record {
       current = joinOf (st .current) (getD (st .branches) (st .depth - 1) blankBranch .kept);
       depth = st .depth - 1;
-      branches = st .branches
+      branches = st .branches;
     }))
 
 abbrev pub metState : State → Flow → State
@@ -88,7 +88,7 @@ openedState st n =
     (record {
       current = st .current;
       depth = st .depth + 1;
-      branches = set (st .branches) (st .depth) (record { opener = n; «els_met» = false; kept = st .current })
+      branches = set (st .branches) (st .depth) (record { opener = n; «els_met» = false; kept = st .current });
     })
 
 abbrev pub partedState : State → Flow → ℕ → State

@@ -55,8 +55,18 @@ fn source_fault(profile: Profile, second: bool, opcode: u32, rows: u8, operand: 
 {
     match operand {
         Operand::Unused => 0,
-        Operand::Direct(s) => first_of(rules::direct_wrong(profile, rows, s), 17, swizzle_wrong(second, opcode, s.swizzle), 18),
-        Operand::Indexed(s) => first_of(rules::indexed_wrong(profile, rows, s), 16, swizzle_wrong(second, opcode, s.swizzle), 18),
+        Operand::Direct(s) => first_of(
+            rules::direct_wrong(profile, rows, s),
+            17,
+            swizzle_wrong(second, opcode, s.swizzle),
+            18,
+        ),
+        Operand::Indexed(s) => first_of(
+            rules::indexed_wrong(profile, rows, s),
+            16,
+            swizzle_wrong(second, opcode, s.swizzle),
+            18,
+        ),
         Operand::Sampler(s) => first_of(rules::sampler_wrong(profile, s), 19, false, 0),
     }
 }

@@ -1,4 +1,6 @@
-// The whole check.
+// The whole check of a program: accepted with its stage and token count, or the first fault with its token and part.
+//
+// Header, one-token step and end are functions of their own, so that a program can be judged token by token.
 pub mod answers;
 mod checking;
 mod faults;
@@ -7,3 +9,7 @@ pub mod profile;
 mod rules;
 pub mod state;
 pub mod step;
+
+pub use checking::check;
+pub use checking::finish;
+pub use header::header_fault;

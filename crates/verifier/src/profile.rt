@@ -22,7 +22,15 @@ pub fn profile_of(edition: u32, stage: u8) -> Profile
     Profile {
         edition,
         stage,
-        counts: [attributes, constants, temporaries, outputs, varyings, samplers, depths],
+        counts: [
+            attributes,
+            constants,
+            temporaries,
+            outputs,
+            varyings,
+            samplers,
+            depths,
+        ],
     }
 }
 

@@ -61,7 +61,11 @@ pub(crate) fn indexed_wrong(profile: Profile, rows: u8, s: IndexedSource) -> boo
     let count = profile::count_of(profile, s.index_kind);
     let constants = profile::count_of(profile, 1);
     let end = s.offset as u16 + rows as u16;
-    (profile.stage != 0) | (s.kind != 1) | (2 < s.index_kind) | (count <= s.number) | (constants < end)
+    (profile.stage != 0)
+        | (s.kind != 1)
+        | (2 < s.index_kind)
+        | (count <= s.number)
+        | (constants < end)
 }
 
 // 17
@@ -97,5 +101,11 @@ pub(crate) fn sampler_wrong(profile: Profile, s: Sampler) -> bool
     ensures { λ r. ⌜ r ≡ samplerWrong (countIn profile) s ⌝ }
 {
     let count = profile::count_of(profile, 5);
-    (s.kind != 5) | (count <= s.number) | (1 < s.filter) | (1 < s.wrap) | (1 < s.dimension) | (2 < s.mipmap) | (s.special != 0)
+    (s.kind != 5)
+        | (count <= s.number)
+        | (1 < s.filter)
+        | (1 < s.wrap)
+        | (1 < s.dimension)
+        | (2 < s.mipmap)
+        | (s.special != 0)
 }

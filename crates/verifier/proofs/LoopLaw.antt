@@ -1,0 +1,109 @@
+-- The loop of the check: where it starts, one turn of it, and where it ends.
+-- Assumes nothing.
+use Prim.Native.Nat.{ℕ, zero, suc, _+_, _-_, _*_, _/_, _%_, _^_, _≤_, _<_}
+use mathlib.Core.Bool.{Bool, true, false, not, cond, _&&_}
+use mathlib.Core.List.{List, [], _∷_}
+use mathlib.Core.Path.{_≡_, refl, _∙_, sym, ap, ap₂, subst, fun-ext}
+use native.Mathlib.Nat.{zero-div}
+use native.Mathlib.Numerals.{add-one}
+use native.Mathlib.Omega.{arith}
+use lib.Dec.{eqb, ltb}
+use lib.ListN.{length, getD, take, drop, length-take, length-drop}
+use borrow.Author.Tests.{eq-eqb, ne-eqb}
+use Rattle.bytecode.specs.declared.answers.Refusal.{Refusal}
+use Rattle.registers.specs.Counts.{countOf}
+use Rattle.paths.specs.Unwritten.{nothing}
+use Rattle.paths.specs.Reads.{bitOf}
+use Rattle.paths.specs.Written.{componentSet, registersOf}
+use Rattle.paths.specs.Faults as faults
+use Rattle.paths.specs.Check as check
+use Rattle.paths.specs.Check.{start, ending, checkFrom, verdictOf}
+use Rattle.verifier.specs.Rules.{stageOf, tokenCount}
+use Rattle.verifier.specs.Profile.{profileOf}
+use Rattle.verifier.specs.Order.{pathTokenAt, tokenAt, tokensFrom, tokensOf}
+use Rattle.verifier.specs.State.{noneWritten, startState, topOf}
+use Rattle.verifier.specs.Step.{stepOf}
+use Rattle.verifier.specs.Verdict.{answerOf}
+use Rattle.verifier.specs.Finish.{finishOf}
+use Rattle.verifier.specs.declared.profile.Profile.{Profile}
+use Rattle.verifier.specs.declared.state.State.{State}
+use Rattle.verifier.specs.declared.step.Stepped.{Stepped}
+use Rattle.verifier.specs.declared.answers.Checked.the-variants.{Refused}
+use Rattle.verifier.proofs.Abstract.{abstractOf, branchesIn, Valid, inside}
+use Rattle.verifier.proofs.StepLaw.{after}
+use Rattle.verifier.proofs.TokenLaw.{steps}
+
+-- ---- before the first token
+
+none-set : (c : ℕ) → registersOf noneWritten c ≡ 0
+none-set c = go (eqb c 0) (eqb c 1) (eqb c 2) 0
+  where
+    go : (a b d : Bool) (z : ℕ) → cond a z (cond b z (cond d z z)) ≡ z
+    go true b d z = refl
+    go false true d z = refl
+    go false false true z = refl
+    go false false false z = refl
+
+and-false : (b : Bool) → (b && false) ≡ false
+and-false true = refl
+and-false false = refl
+
+none-written : componentSet noneWritten ≡ nothing
+none-written = fun-ext (λ n. ap (λ g. ltb (n / 4) 32 && bitOf g (n / 4)) (none-set (n % 4)) ∙ ap (λ z. ltb (n / 4) 32 && eqb (z % 2) 1) (zero-div (2 ^ (n / 4))) ∙ and-false (ltb (n / 4) 32))
+
+start-is : abstractOf startState ≡ start
+start-is = ap (λ w. record { openBranches = []; current = w; kept = [] }) none-written
+
+-- ---- one turn
+
+-- how many tokens are left at token n
+abbrev pub left : List ℕ → ℕ → ℕ
+left bytes n = tokenCount bytes - n
+
+module _ (edition : ℕ) (bytes : List ℕ) where
+  -- the answer from a state at token n, with so many tokens left
+  abbrev pub answerFrom : State → ℕ → ℕ → faults.Answer
+  answerFrom st n left = checkFrom (abstractOf st) n (tokensFrom edition bytes n left)
+
+  pub begins : (st : State) → st ≡ startState → answerFrom st 0 (left bytes 0) ≡ verdictOf (tokensOf edition bytes)
+  begins st e =
+      let all : left bytes 0 ≡ tokenCount bytes = omega arith in
+      ap₂ (λ a k. checkFrom a 0 (tokensFrom edition bytes 0 k)) (ap abstractOf e ∙ start-is) all
+
+  module _ (header : 7 ≤ length bytes) (st : State) (v : Valid st) (n : ℕ) (l : n < tokenCount bytes) where
+    token-length : length (tokenAt bytes n) ≡ 24
+    token-length = simp (length-take, length-drop) (omega arith)
+
+    -- the profile and the step as the code makes them
+    module _ (profile : Profile) (made : profile ≡ profileOf edition (stageOf bytes)) (r : Stepped)
+        (stepped : r ≡ stepOf st profile n (take (7 + n * 24 + 24 - (7 + n * 24)) (drop (7 + n * 24) bytes))) where
+      as-stepped : r ≡ stepOf st (profileOf edition (stageOf bytes)) n (tokenAt bytes n)
+      as-stepped =
+          let width : 7 + n * 24 + 24 - (7 + n * 24) ≡ 24 = omega arith in
+          stepped ∙ ap₂ (λ p k. stepOf st p n (take k (drop (7 + n * 24) bytes))) made width
+
+      turn : answerFrom st n (left bytes n) ≡ after r n (tokensFrom edition bytes (n + 1) (left bytes (n + 1)))
+      turn =
+          let left-is : left bytes n ≡ suc (left bytes (n + 1)) = omega arith in
+          ap (answerFrom st n) left-is
+          ∙ steps edition (stageOf bytes) n (tokenAt bytes n) token-length st v (tokensFrom edition bytes (n + 1) (left bytes (n + 1))) .0
+          ∙ ap (λ q. after q n (tokensFrom edition bytes (n + 1) (left bytes (n + 1)))) (sym as-stepped)
+
+      pub turn-valid : Valid (r .state)
+      turn-valid = subst (λ q. Valid (q .state)) (sym as-stepped) (steps edition (stageOf bytes) n (tokenAt bytes n) token-length st v [] .1)
+
+      pub goes-on : r .fault .number ≡ 0 → answerFrom st n (left bytes n) ≡ answerFrom (r .state) (n + 1) (left bytes (n + 1))
+      goes-on z = turn ∙ rw (eq-eqb (r .fault .number) 0 z, add-one)
+
+      pub stops : (r .fault .number ≡ 0 → ⊥) → answerOf bytes (answerFrom st n (left bytes n)) ≡ Refused (r .fault)
+      stops z = ap (answerOf bytes) turn ∙ rw (ne-eqb (r .fault .number) 0 z)
+
+  -- ---- after the last token
+
+  pub ends : (st : State) → Valid st → (n : ℕ) → answerOf bytes (answerFrom st n 0) ≡ finishOf st (stageOf bytes) (tokenCount bytes)
+  unfolding checkFrom finishOf
+  ends st v n = go (st .depth) refl
+    where
+      go : (d : ℕ) → st .depth ≡ d → answerOf bytes (ending (branchesIn st)) ≡ finishOf st (stageOf bytes) (tokenCount bytes)
+      go zero e = rw (eq-eqb (st .depth) 0 e, e)
+      go (suc d) e = rw (ne-eqb (st .depth) 0 (λ z. omega (arith, e, z)), inside st v d e, e)

@@ -1,0 +1,161 @@
+-- `check_tokens` meets its contract.
+-- Assumes nothing.
+use Prim.Native.Nat.{_-_, _≤_}
+use mathlib.Core.Path.{_≡_, _∙_, sym, ap, subst⁻¹}
+use native.Mathlib.Omega.{arith}
+use borrow.Author.Needs.{needs}
+use denote.Ref.{now}
+use Rattle.paths.specs.Check.{verdictOf}
+use Rattle.verifier.specs.Rules.{tokenCount}
+use Rattle.verifier.specs.Order.{tokensOf}
+use Rattle.verifier.specs.Verdict.{answerOf}
+use Rattle.verifier.proofs.Abstract.{Valid, valid-start}
+use Rattle.verifier.proofs.LoopLaw.{answerFrom, left, begins, turn-valid, goes-on, stops, ends}
+use Rattle.verifier.proofs.checking.check_tokens.Statement.{statement}
+use Rattle.verifier.proofs.checking.check_tokens.Tie as tie
+
+abbrev Inv-loop : tie.InvT-loop
+Inv-loop edition bytes stage count profile state₀ token₀ state token =
+    (token ≤ tokenCount bytes)
+    × Valid state
+    × (answerOf bytes (answerFrom edition bytes state token (left bytes token)) ≡ answerOf bytes (verdictOf (tokensOf edition bytes)))
+
+abbrev μ-loop : tie.MeasureT-loop
+μ-loop edition bytes stage count profile state₀ token₀ state token = left bytes token
+
+shared-slice-read-stage : tie.Need-shared-slice-read-stage Inv-loop μ-loop
+shared-slice-read-stage c = search needs
+
+sub-count : tie.Need-sub-count Inv-loop μ-loop
+sub-count c = search needs
+
+profile-of-requires : tie.Need-profile-of-requires Inv-loop μ-loop
+profile-of-requires c κs = search needs
+
+start-requires : tie.Need-start-requires Inv-loop μ-loop
+start-requires c κs = search needs
+
+loop-holds : tie.Need-loop-holds Inv-loop μ-loop
+loop-holds c =
+    let at-start = c .before .before .before .before in
+    let bytes = now (at-start .args .bytes) in (
+      omega arith,
+      subst⁻¹ Valid (c .start .ensures) valid-start,
+      ap (answerOf bytes) (begins (at-start .args .edition) bytes (c .start .result) (c .start .ensures)),
+    )
+
+mul-at : tie.Need-mul-at Inv-loop μ-loop
+mul-at c = search needs
+
+add-at : tie.Need-add-at Inv-loop μ-loop
+add-at c = search needs
+
+add-end : tie.Need-add-end Inv-loop μ-loop
+add-end c = search needs
+
+sub-step : tie.Need-sub-step Inv-loop μ-loop
+sub-step c = search needs
+
+part-step-start : tie.Need-part-step-start Inv-loop μ-loop
+part-step-start c = search needs
+
+part-step-end : tie.Need-part-step-end Inv-loop μ-loop
+part-step-end c = search needs
+
+step-requires : tie.Need-step-requires Inv-loop μ-loop
+step-requires c κs = search needs
+
+returns : tie.Need-returns Inv-loop μ-loop
+returns c =
+    let at-start = c .before .before .before .before .before .before .before .before .before .before .before in
+    let entry = c .before .before .before .before .before .before .loop in
+    sym
+    (stops
+    (at-start .args .edition)
+    (now (at-start .args .bytes))
+    (at-start .pre)
+    (entry .state)
+    (entry .inv .1)
+    (entry .token)
+    (c .before .before .before .before .before .loop-test .taken)
+    _
+    (c .before .before .before .before .before .before .before .before .profile-of .ensures)
+    _
+    (c .before .before .before .step .ensures)
+    (c .if1 .taken))
+    ∙ entry .inv .2
+
+add-token : tie.Need-add-token Inv-loop μ-loop
+add-token c = search needs
+
+loop-less : tie.Need-loop-less Inv-loop μ-loop
+loop-less c = search needs
+
+loop-again : tie.Need-loop-again Inv-loop μ-loop
+loop-again c =
+    let at-start = c .before .before .before .before .before .before .before .before .before .before .before .before in
+    let edition = at-start .args .edition in
+    let bytes = now (at-start .args .bytes) in
+    let entry = c .before .before .before .before .before .before .before .loop in
+    let profile = c .before .before .before .before .before .before .before .before .before .profile-of in
+    let step = c .before .before .before .before .step in
+    let inside = c .before .before .before .before .before .before .loop-test .taken in (
+      omega arith,
+      turn-valid edition bytes (at-start .pre) (entry .state) (entry .inv .1) (entry .token) inside _ (profile .ensures) _ (step .ensures),
+      ap (answerOf bytes)
+          (sym
+          (goes-on
+          edition
+          bytes
+          (at-start .pre)
+          (entry .state)
+          (entry .inv .1)
+          (entry .token)
+          inside
+          _
+          (profile .ensures)
+          _
+          (step .ensures)
+          (c .before .if1 .left)))
+          ∙ entry .inv .2,
+    )
+
+finish-requires : tie.Need-finish-requires Inv-loop μ-loop
+finish-requires c κs = search needs
+
+returns-2 : tie.Need-returns-2 Inv-loop μ-loop
+returns-2 c =
+    let at-start = c .before .before .before .before .before .before .before in
+    let edition = at-start .args .edition in
+    let bytes = now (at-start .args .bytes) in
+    let entry = c .before .before .loop in
+    let none-left : left bytes (entry .token) ≡ 0 = omega arith in
+    c .finish .ensures
+    ∙ sym (ends edition bytes (entry .state) (entry .inv .1) (entry .token))
+    ∙ ap (λ k. answerOf bytes (answerFrom edition bytes (entry .state) (entry .token) k)) (sym none-left)
+    ∙ entry .inv .2
+
+pub check-tokens-spec : {M : Type 1} → statement M
+check-tokens-spec =
+    tie.close
+    (tie.spec
+    Inv-loop
+    μ-loop
+    shared-slice-read-stage
+    sub-count
+    profile-of-requires
+    start-requires
+    loop-holds
+    mul-at
+    add-at
+    add-end
+    sub-step
+    part-step-start
+    part-step-end
+    step-requires
+    returns
+    add-token
+    loop-less
+    loop-again
+    finish-requires
+    returns-2)
