@@ -29,7 +29,7 @@ pub struct State {
     pub branches: [Branch; 16],
 }
 
-pub fn flow_of(opcode: u32) -> Flow
+pub(crate) fn flow_of(opcode: u32) -> Flow
     ensures { λ r. ⌜ r ≡ flowOfCode opcode ⌝ }
 {
     if opcode < 0x1c {
@@ -71,7 +71,7 @@ impl State {
     }
 
     // The innermost open branch. A state that has none, or more than there is room for, answers a blank one.
-    pub fn top(self) -> Branch
+    pub(crate) fn top(self) -> Branch
         ensures { λ r. ⌜ r ≡ topOf self ⌝ }
     {
         let depth = self.depth;
@@ -85,7 +85,7 @@ impl State {
     }
 
     // Fault 20.
-    pub fn is_misplaced(self, flow: Flow) -> bool
+    pub(crate) fn is_misplaced(self, flow: Flow) -> bool
         ensures { λ r. ⌜ r ≡ isMisplaced self flow ⌝ }
     {
         let depth = self.depth;
@@ -100,7 +100,7 @@ impl State {
     }
 
     // As a token is met: els takes up the set from before the branch, eif joins the sets of both blocks and closes the branch.
-    pub fn met(self, flow: Flow) -> State
+    pub(crate) fn met(self, flow: Flow) -> State
         ensures { λ r. ⌜ r ≡ metState self flow ⌝ }
     {
         match flow {
@@ -155,7 +155,7 @@ impl State {
     }
 
     // After a token: an opener keeps the set at hand for the other side.
-    pub fn parted(self, flow: Flow, token: usize) -> State
+    pub(crate) fn parted(self, flow: Flow, token: usize) -> State
         ensures { λ r. ⌜ r ≡ partedState self flow token ⌝ }
     {
         match flow {
@@ -185,7 +185,7 @@ impl State {
     }
 
     // With the components that a token writes, where its destination is a temporary register.
-    pub fn wrote(self, destination: Destination) -> State
+    pub(crate) fn wrote(self, destination: Destination) -> State
         ensures { λ r. ⌜ r ≡ wroteState self destination ⌝ }
     {
         match destination {

@@ -1,0 +1,19 @@
+-- `opening` meets its contract.
+-- Assumes nothing.
+use borrow.Author.Needs.{needs}
+use native.Mathlib.Omega.{arith}
+use Rattle.reader.proofs.ReadingLaws.{too-short, long-enough}
+use Rattle.reader.proofs.steps.opening.Statement.{statement}
+use Rattle.reader.proofs.steps.opening.Tie as tie
+
+refused-requires : tie.Need-refused-requires
+refused-requires c κs = search needs
+
+returns : tie.Need-returns
+returns c = rw (c .refused .ensures) (too-short _ (omega arith))
+
+returns-2 : tie.Need-returns-2
+returns-2 c = long-enough _ (omega arith)
+
+pub opening-spec : {M : Type 1} → statement M
+opening-spec = tie.close (tie.spec refused-requires returns returns-2)

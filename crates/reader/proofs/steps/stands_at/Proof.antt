@@ -1,0 +1,24 @@
+-- `stands_at` meets its contract.
+-- Assumes nothing.
+use borrow.Author.Needs.{needs}
+use Rattle.reader.proofs.steps.stands_at.Statement.{statement}
+use Rattle.reader.proofs.steps.stands_at.Tie as tie
+
+enum-known-answer : tie.Need-enum-known-answer
+enum-known-answer c = search needs
+
+enum-known-answer-2 : tie.Need-enum-known-answer-2
+enum-known-answer-2 c = search needs
+
+refused-requires : tie.Need-refused-requires
+refused-requires c κs = search needs
+
+returns : tie.Need-returns
+returns c = cc
+
+returns-2 : tie.Need-returns-2
+returns-2 c = cc
+
+pub stands-at-spec : {M : Type 1} → statement M
+stands-at-spec =
+    tie.close (tie.spec enum-known-answer enum-known-answer-2 refused-requires returns returns-2)

@@ -1,0 +1,91 @@
+-- Document 01, "Token reader": what opening and each read answer, and where they leave the reader.
+use Prim.Native.Nat.{ℕ, _+_, _*_}
+use mathlib.Core.Bool.{Bool, cond}
+use mathlib.Core.List.{List}
+use mathlib.Core.Path.{_≡_}
+use lib.Dec.{ltb, eqb}
+use lib.ListN.{length, take, drop}
+use denote.Ref.{RefT, now}
+use Rattle.bytecode.specs.Decode.{refusal, noRefusal, decodedNumbers, decodeFault, decodeOf}
+use Rattle.bytecode.specs.declared.answers.Refusal.{Refusal}
+use Rattle.bytecode.specs.declared.answers.Decoded.{Decoded}
+use Rattle.bytecode.specs.declared.answers.Decoded.the-variants.{Token as Accepted, Refused}
+use Rattle.reader.specs.declared.answers.TokenReader.{TokenReader}
+use Rattle.reader.specs.declared.answers.Opening.{Opening}
+use Rattle.reader.specs.declared.answers.Opening.the-variants.{Ready, Refused as NotOpened}
+use Rattle.reader.specs.declared.answers.Opened.{Opened}
+use Rattle.reader.specs.declared.answers.Read.{Read}
+use Rattle.reader.specs.declared.steps.Step.{Step}
+
+-- "Opening needs 7 bytes (else 2, and its reads answer 24)": the fault; what its reads answer is RefusedOpening in Sequence
+unfoldable pub openingFault : List ℕ → Refusal
+openingFault s = cond (ltb (length s) 7) (refusal 2 0 0) noRefusal
+
+-- the paper's numbers of what opening answers
+abbrev pub openingNumbers : Opening → Refusal
+openingNumbers Ready = noRefusal
+openingNumbers (NotOpened r) = r
+
+-- what opening answers
+unfoldable pub openingOf : List ℕ → Opening
+openingOf s = cond (eqb (openingFault s .number) 0) Ready (NotOpened (openingFault s))
+
+-- "Then tokens of 24 bytes", after a header of 7: where a token begins
+abbrev pub tokenStart : ℕ → ℕ
+tokenStart n = 7 + 24 * n
+
+-- "the next 24 bytes"
+abbrev pub tokenBytes : List ℕ → ℕ → List ℕ
+tokenBytes s n = take 24 (drop (tokenStart n) s)
+
+-- "Fewer than 24 left"
+abbrev pub noTokenLeft : List ℕ → ℕ → Bool
+noTokenLeft s n = ltb (length s) (tokenStart n + 24)
+
+-- "Outside the check a refusal's token is 0, for the reader the token it stands at"
+abbrev pub standsAt : ℕ → Decoded → Decoded
+standsAt n (Accepted t) = Accepted t
+standsAt n (Refused r) = Refused (refusal (r .number) n (r .part))
+
+-- "Each read decodes the next 24 bytes", "Fewer than 24 left answers 24": what a read answers after n tokens read
+unfoldable pub readOf : List ℕ → ℕ → Decoded
+readOf s n = cond (noTokenLeft s n) (Refused (refusal 24 n 0)) (standsAt n (decodeOf (tokenBytes s n)))
+
+-- the numbers of that answer; all are 0 where nothing is refused
+unfoldable pub faultAt : ℕ → Refusal → Refusal
+faultAt n r = cond (eqb (r .number) 0) noRefusal (refusal (r .number) n (r .part))
+
+unfoldable pub readFault : List ℕ → ℕ → Refusal
+readFault s n = cond (noTokenLeft s n) (refusal 24 n 0) (faultAt n (decodeFault (tokenBytes s n)))
+
+-- "and moves on"; "any refusal leaves the place unmoved"
+abbrev pub placeFrom : ℕ → Decoded → ℕ
+placeFrom n (Accepted t) = n + 1
+placeFrom n (Refused r) = n
+
+-- the number of tokens read, after a read that began with n of them read
+unfoldable pub placeAfter : List ℕ → ℕ → ℕ
+placeAfter s n = placeFrom n (readOf s n)
+
+-- the promise of read_at: the answer after n tokens read, and its numbers
+pub record ReadsAt (s : List ℕ) (n : ℕ) (r : Decoded) : Type 0 where
+  pub answer : r ≡ readOf s n
+  pub numbers : decodedNumbers r ≡ readFault s n
+
+-- the answer, and the place after it
+pub record Steps (s : List ℕ) (n : ℕ) (r : Step) : Type 0 where
+  pub reads : ReadsAt s n (r .answer)
+  pub place : r .place ≡ placeAfter s n
+
+-- the promise of open: its answer and the answer's numbers; the reader holds the very slice lent and stands at token 0, on a refusal too
+pub record Opens (lent : RefT (List ℕ)) (r : Opened) : Type 0 where
+  pub answer : r .answer ≡ openingOf (now lent)
+  pub numbers : openingNumbers (r .answer) ≡ openingFault (now lent)
+  pub program : r .reader .program ≡ lent
+  pub place : r .reader .place ≡ 0
+
+-- the promise of read: its answer and the answer's numbers; the next reader holds the very same slice, and its place is given
+pub record Reads (reader : TokenReader) (r : Read) : Type 0 where
+  pub reads : ReadsAt (now (reader .program)) (reader .place) (r .answer)
+  pub program : r .reader .program ≡ reader .program
+  pub place : r .reader .place ≡ placeAfter (now (reader .program)) (reader .place)

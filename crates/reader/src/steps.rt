@@ -1,0 +1,75 @@
+// What the reader answers, on a plain slice and a number of tokens read.
+ghost use mathlib.Core.Path.{_≡_};
+ghost use Rattle.bytecode.specs.Decode.{refusal};
+ghost use Rattle.reader.specs.Reading.{openingOf, standsAt, ReadsAt, Steps};
+use crate::answers::Opening;
+use bytecode::answers::Decoded;
+use bytecode::answers::Refusal;
+
+// An answer, and the place that the reader has after it.
+pub(crate) struct Step {
+    pub answer: Decoded,
+    pub place: usize,
+}
+
+pub(crate) fn opening(program: &[u8]) -> Opening
+    ensures { λ r. ⌜ r ≡ openingOf (now (program .entry)) ⌝ }
+{
+    if program.len() < 7 {
+        return Opening::Refused(refused(2, 0, 0));
+    }
+    Opening::Ready
+}
+
+// What a reader that has read `token` tokens answers.
+pub fn read_at(program: &[u8], token: usize) -> Decoded
+    ensures { λ r. ⌜ ReadsAt (now (program .entry)) token r ⌝ }
+{
+    // A header of 7 bytes and one token are 31. Any number may come in, so no sum is made before the token is known to stand within the
+    // program.
+    if program.len() < 31 {
+        return Decoded::Refused(refused(24, token, 0));
+    }
+    if (program.len() - 31) / 24 < token {
+        return Decoded::Refused(refused(24, token, 0));
+    }
+    let start = 7 + 24 * token;
+    let end = start + 24;
+    stands_at(token, bytecode::decode(&program[start..end]))
+}
+
+// A token moves the reader on, a refusal does not.
+pub(crate) fn step_at(program: &[u8], place: usize) -> Step
+    ensures { λ r. ⌜ Steps (now (program .entry)) place r ⌝ }
+{
+    match read_at(program, place) {
+        Decoded::Token(t) => Step {
+            answer: Decoded::Token(t),
+            place: place + 1,
+        },
+        Decoded::Refused(r) => Step {
+            answer: Decoded::Refused(r),
+            place,
+        },
+    }
+}
+
+// A refusal names the token that the reader stands at.
+fn stands_at(token: usize, answer: Decoded) -> Decoded
+    ensures { λ r. ⌜ r ≡ standsAt token answer ⌝ }
+{
+    match answer {
+        Decoded::Token(t) => Decoded::Token(t),
+        Decoded::Refused(r) => Decoded::Refused(refused(r.number, token, r.part)),
+    }
+}
+
+fn refused(number: u8, token: usize, part: u8) -> Refusal
+    ensures { λ r. ⌜ r ≡ refusal number token part ⌝ }
+{
+    Refusal {
+        number,
+        token,
+        part,
+    }
+}
