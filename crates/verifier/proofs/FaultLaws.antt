@@ -1,13 +1,12 @@
 -- The first fault of a token, stage by stage.
 -- Assumes nothing.
 use Prim.Native.Nat.{ℕ, zero, suc, _≤_}
-use mathlib.Core.Bool.{Bool, true, false, not, cond}
+use mathlib.Core.Bool.{Bool, true, false, cond}
 use mathlib.Core.List.{List, [], _∷_, _++_}
 use mathlib.Core.Option.{Option, none, some}
 use mathlib.Core.Path.{_≡_, refl, _∙_, sym, ap}
-use lib.Dec.{eqb, eqb·suc-zero}
-use Rattle.bytecode.specs.Decode.{refusal, noRefusal}
-use Rattle.bytecode.specs.declared.answers.Refusal.{Refusal}
+use lib.Dec.{eqb·suc-zero}
+use Rattle.bytecode.specs.Decode.{refusal}
 use Rattle.bytecode.specs.declared.record.Operand.{Operand}
 use Rattle.bytecode.specs.declared.record.Operand.the-variants.{Unused as NoOperand, Direct, Indexed, Sampler as Sampled}
 use Rattle.bytecode.specs.declared.record.Token.{Token}
@@ -16,7 +15,7 @@ use Rattle.paths.specs.Reads.{rowCount2}
 use Rattle.verifier.specs.Rules.{destinationWrong, maskWrong, indexedWrong, directWrong, samplerWrong}
 use Rattle.verifier.specs.Profile.{countIn}
 use Rattle.verifier.specs.Order.{Rule, rule, firstFault, sourceRules, recordRules}
-use Rattle.verifier.specs.Faults.{numberOf, refusalAt, swizzleWrong, recordFault}
+use Rattle.verifier.specs.Faults.{numberOf, refusalAt, swizzleWrong, sourcesFault, recordFault}
 use Rattle.verifier.specs.declared.profile.Profile.{Profile}
 
 abbrev pub orElse : Option TokenFault → Option TokenFault → Option TokenFault
@@ -62,10 +61,6 @@ source-part count stage rows swizzled p (Indexed s) = two (indexedWrong count st
 source-part count stage rows swizzled p (Sampled s) = two (samplerWrong count s) false 18 0 p
 
 -- ---- a record
-
--- what is left to tell once the numbers of the two sources' faults are known
-abbrev pub sourcesFault : ℕ → ℕ → ℕ → Refusal
-sourcesFault token x y = cond (not (eqb x 0)) (refusal x token 2) (cond (not (eqb y 0)) (refusal y token 3) noRefusal)
 
 sources : (token x y : ℕ) → refusalAt token (orElse (withPart x 2) (withPart y 3)) ≡ sourcesFault token x y
 sources token zero zero = refl

@@ -1,5 +1,6 @@
 pub mod Abstract
 pub mod Added
+pub mod BenchCases
 pub mod ExactCheck
 pub mod FaultLaws
 pub mod HeaderLaw

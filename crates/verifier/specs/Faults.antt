@@ -1,9 +1,9 @@
 -- The first fault of a token in the form that the code keeps: a refusal, with number 0 where there is none.
 use Prim.Native.Nat.{ℕ}
-use mathlib.Core.Bool.{Bool, true, false, cond}
+use mathlib.Core.Bool.{Bool, true, false, not, cond}
 use mathlib.Core.List.{List, [], _∷_}
 use mathlib.Core.Option.{Option, none, some}
-use lib.Dec.{ltb}
+use lib.Dec.{eqb, ltb}
 use Rattle.bytecode.specs.Decode.{refusal, noRefusal}
 use Rattle.bytecode.specs.declared.answers.Refusal.{Refusal}
 use Rattle.bytecode.specs.declared.record.Token.{Token}
@@ -25,6 +25,10 @@ refusalAt token (some f) = refusal (f .number) token (f .part)
 abbrev pub swizzleWrong : Bool → ℕ → ℕ → Bool
 swizzleWrong true opcode swizzle = matrixSwizzled opcode swizzle
 swizzleWrong false opcode swizzle = selectorsDiffer opcode swizzle
+
+-- 16 to 19 of both sources, by the numbers of their faults, 0 for none
+abbrev pub sourcesFault : ℕ → ℕ → ℕ → Refusal
+sourcesFault token x y = cond (not (eqb x 0)) (refusal x token 2) (cond (not (eqb y 0)) (refusal y token 3) noRefusal)
 
 -- 14 to 19
 unfoldable pub recordFault : Profile → ℕ → Token → Refusal

@@ -51,7 +51,7 @@ fn check_tokens(edition: u32, bytes: &[u8]) -> Checked
 }
 
 // The end of the check: 22 where a branch is still open.
-pub fn finish(state: State, stage: u8, tokens: usize) -> Checked
+fn finish(state: State, stage: u8, tokens: usize) -> Checked
     ensures { λ r. ⌜ r ≡ finishOf state stage tokens ⌝ }
 {
     let depth = state.depth;

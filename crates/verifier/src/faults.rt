@@ -4,7 +4,7 @@ ghost use mathlib.Core.Path.{_≡_};
 ghost use Rattle.bytecode.specs.Decode.{refusal as refused};
 ghost use Rattle.verifier.specs.Profile.{countIn};
 ghost use Rattle.verifier.specs.Order.{firstFault, sourceRules};
-ghost use Rattle.verifier.specs.Faults.{numberOf, swizzleWrong, recordFault, ownFault, undecodedFault};
+ghost use Rattle.verifier.specs.Faults.{numberOf, swizzleWrong, sourcesFault, recordFault, ownFault, undecodedFault};
 use crate::profile::Profile;
 use crate::rules;
 use bytecode::answers::Refusal;
@@ -38,11 +38,18 @@ fn record_fault(profile: Profile, token: usize, t: Token) -> Refusal
     }
     let source1 = t.source1;
     let first = source_fault(profile, false, t.opcode, 1, source1);
+    let source2 = t.source2;
+    let second = source_fault(profile, true, t.opcode, access::rows2(t.opcode), source2);
+    sources_fault(token, first, second)
+}
+
+// Source 1 comes first. The numbers are 0 where there is no fault.
+fn sources_fault(token: usize, first: u8, second: u8) -> Refusal
+    ensures { λ r. ⌜ r ≡ sourcesFault token first second ⌝ }
+{
     if first != 0 {
         return refusal(first, token, 2);
     }
-    let source2 = t.source2;
-    let second = source_fault(profile, true, t.opcode, access::rows2(t.opcode), source2);
     if second != 0 {
         return refusal(second, token, 3);
     }

@@ -9,7 +9,7 @@ ghost use Rattle.verifier.specs.Header.{restFault};
 use crate::faults;
 use bytecode::answers::Refusal;
 
-pub fn header_fault(edition: u32, bytes: &[u8]) -> Refusal
+pub(crate) fn header_fault(edition: u32, bytes: &[u8]) -> Refusal
     ensures { λ r. ⌜ r ≡ headerFault edition (now (bytes .entry)) ⌝ }
 {
     if edition_unknown(edition) {

@@ -5,11 +5,9 @@ pub mod answers;
 mod checking;
 mod faults;
 mod header;
-pub mod profile;
+mod profile;
 mod rules;
-pub mod state;
-pub mod step;
+mod state;
+mod step;
 
 pub use checking::check;
-pub use checking::finish;
-pub use header::header_fault;

@@ -9,7 +9,7 @@ pub struct Profile {
     pub counts: [u16; 7],
 }
 
-pub fn profile_of(edition: u32, stage: u8) -> Profile
+pub(crate) fn profile_of(edition: u32, stage: u8) -> Profile
     ensures { λ r. ⌜ r ≡ profileOf edition stage ⌝ }
 {
     let attributes = registers::register_count(0, edition, stage);

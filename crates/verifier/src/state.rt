@@ -49,7 +49,7 @@ pub(crate) fn flow_of(opcode: u32) -> Flow
 
 impl State {
     // Before the first token nothing is written and no branch is open.
-    pub fn start() -> State
+    pub(crate) fn start() -> State
         ensures { λ r. ⌜ r ≡ startState ⌝ }
     {
         let none = Written {

@@ -22,7 +22,7 @@ pub struct Stepped {
 
 impl State {
     // Judges the bytes of one token, whose number is `token`.
-    pub fn step(self, profile: Profile, token: usize, bytes: &[u8]) -> Stepped
+    pub(crate) fn step(self, profile: Profile, token: usize, bytes: &[u8]) -> Stepped
         ensures { λ r. ⌜ r ≡ stepOf self profile token (now (bytes .entry)) ⌝ }
     {
         match bytecode::decode(bytes) {

@@ -1,6 +1,5 @@
 -- `record_fault` meets its contract.
 -- Assumes nothing.
-use borrow.Author.Tests.{eq-eqb, ne-eqb}
 use Rattle.verifier.proofs.FaultLaws.{staged}
 use borrow.Author.Needs.{needs}
 use Rattle.verifier.proofs.faults.record_fault.Statement.{statement}
@@ -43,67 +42,28 @@ returns-2 c =
 source-fault-requires : tie.Need-source-fault-requires
 source-fault-requires c κs = search needs
 
-refusal-requires-3 : tie.Need-refusal-requires-3
-refusal-requires-3 c κs = search needs
-
-returns-3 : tie.Need-returns-3
-returns-3 c =
-    let a = c .before .before .before .before .before .before .before .args in
-    simp (
-      staged (a .profile) (a .token) (a .t),
-      ← c .before .before .before .before .before .before .destination-wrong .ensures,
-      c .before .before .before .before .before .if1 .left,
-      ← c .before .before .before .before .mask-wrong .ensures,
-      c .before .before .before .if2 .left,
-      ← c .before .before .source-fault .ensures,
-      ne-eqb _ _ (c .before .if3 .taken),
-      c .refusal3 .ensures,
-    )
-
 rows2-requires : tie.Need-rows2-requires
 rows2-requires c κs = search needs
 
 source-fault-requires-2 : tie.Need-source-fault-requires-2
 source-fault-requires-2 c κs = search needs
 
-refusal-requires-4 : tie.Need-refusal-requires-4
-refusal-requires-4 c κs = search needs
+sources-fault-requires : tie.Need-sources-fault-requires
+sources-fault-requires c κs = search needs
 
-returns-4 : tie.Need-returns-4
-returns-4 c =
-    let a = c .before .before .before .before .before .before .before .before .before .before .args in
+returns-3 : tie.Need-returns-3
+returns-3 c =
+    let a = c .before .before .before .before .before .before .before .before .args in
     simp (
       staged (a .profile) (a .token) (a .t),
-      ← c .before .before .before .before .before .before .before .before .before .destination-wrong .ensures,
-      c .before .before .before .before .before .before .before .before .if1 .left,
-      ← c .before .before .before .before .before .before .before .mask-wrong .ensures,
-      c .before .before .before .before .before .before .if2 .left,
-      ← c .before .before .before .before .before .source-fault .ensures,
-      eq-eqb _ _ (c .before .before .before .before .if3 .left),
-      ← c .before .before .before .rows2 .ensures,
-      ← c .before .before .source-fault2 .ensures,
-      ne-eqb _ _ (c .before .if4 .taken),
-      c .refusal4 .ensures,
-    )
-
-refusal-requires-5 : tie.Need-refusal-requires-5
-refusal-requires-5 c κs = search needs
-
-returns-5 : tie.Need-returns-5
-returns-5 c =
-    let a = c .before .before .before .before .before .before .before .before .before .before .args in
-    simp (
-      staged (a .profile) (a .token) (a .t),
-      ← c .before .before .before .before .before .before .before .before .before .destination-wrong .ensures,
-      c .before .before .before .before .before .before .before .before .if1 .left,
-      ← c .before .before .before .before .before .before .before .mask-wrong .ensures,
-      c .before .before .before .before .before .before .if2 .left,
-      ← c .before .before .before .before .before .source-fault .ensures,
-      eq-eqb _ _ (c .before .before .before .before .if3 .left),
-      ← c .before .before .before .rows2 .ensures,
-      ← c .before .before .source-fault2 .ensures,
-      eq-eqb _ _ (c .before .if4 .left),
-      c .refusal5 .ensures,
+      ← c .before .before .before .before .before .before .before .destination-wrong .ensures,
+      c .before .before .before .before .before .before .if1 .left,
+      ← c .before .before .before .before .before .mask-wrong .ensures,
+      c .before .before .before .before .if2 .left,
+      ← c .before .before .before .source-fault .ensures,
+      ← c .before .before .rows2 .ensures,
+      ← c .before .source-fault2 .ensures,
+      c .sources-fault .ensures,
     )
 
 pub record-fault-spec : {M : Type 1} → statement M
@@ -117,11 +77,7 @@ record-fault-spec =
     refusal-requires-2
     returns-2
     source-fault-requires
-    refusal-requires-3
-    returns-3
     rows2-requires
     source-fault-requires-2
-    refusal-requires-4
-    returns-4
-    refusal-requires-5
-    returns-5)
+    sources-fault-requires
+    returns-3)
