@@ -4,7 +4,9 @@ ghost use lib.ListN.{length};
 use crate::codec;
 use crate::flat;
 use crate::hex;
+use crate::lines;
 use crate::print;
+use crate::programs;
 
 pub fn run(text: &[u8]) {
     let mut at = 0;
@@ -45,6 +47,9 @@ fn case(line: &[u8]) {
     match letter {
         b'd' => codec::decoded(&bytes[..n]),
         b'e' => encoded(&bytes[..n]),
+        b'l' => lines::listed(&bytes[..n]),
+        b'c' => programs::checked(&bytes[..n]),
+        b'r' => programs::repeated(&mut bytes, n),
         _ => print::text(b"no such case\n"),
     }
 }

@@ -1,6 +1,7 @@
 // A record written as bytes, so that a case can name any record. After a first byte that is not of the record: the opcode in four bytes; the
 // destination as a tag (0 unused, 1 masked), number in two bytes, mask and kind; each source as a tag (0 unused, 1 direct, 2 indexed,
 // 3 sampler), number in two bytes and seven values, in the order of the record.
+ghost use Prim.Native.Nat.{_≤_};
 ghost use mathlib.Core.Path.{_≡_};
 ghost use lib.ListN.{length};
 use bytecode::answers::Decoded;
@@ -13,23 +14,27 @@ use bytecode::record::Sampler;
 use bytecode::record::Token;
 
 pub fn token(s: &[u8]) -> Token
-    requires { ⌜ length (now s) ≡ 30 ⌝ }
+    requires { ⌜ 30 ≤ length (now s) ⌝ }
 {
-    let low = half(s[1], s[2]) as u32;
-    let high = half(s[3], s[4]) as u32;
+    let opcode = word(s[1], s[2], s[3], s[4]);
     let number = half(s[6], s[7]);
     let destination = destination(s[5], number, s[8], s[9]);
     let source1 = operand(&s[10..20]);
     let source2 = operand(&s[20..30]);
     Token {
-        opcode: low + high * 65536,
+        opcode,
         destination,
         source1,
         source2,
     }
 }
 
-fn half(low: u8, high: u8) -> u16 {
+// Four bytes as a number, the lowest first.
+pub fn word(a: u8, b: u8, c: u8, d: u8) -> u32 {
+    half(a, b) as u32 + 65536 * half(c, d) as u32
+}
+
+pub fn half(low: u8, high: u8) -> u16 {
     low as u16 + 256 * high as u16
 }
 

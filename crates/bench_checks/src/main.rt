@@ -4,10 +4,12 @@ mod cases;
 mod codec;
 mod flat;
 mod hex;
+mod lines;
 mod print;
+mod programs;
 
 fn main() {
-    let mut text = [0u8; 262144];
+    let mut text = [0u8; 524288];
     let n = io::read_full(0, &mut text);
     cases::run(&text[..n]);
 }

@@ -58,6 +58,34 @@ slice-aggregate-encoded c =
 encoded-requires : tie.Need-encoded-requires
 encoded-requires c κs = search needs
 
+array-share-prefix-bytes-3 : tie.Need-array-share-prefix-bytes-3
+array-share-prefix-bytes-3 c = search needs
+
+slice-aggregate-listed : tie.Need-slice-aggregate-listed
+slice-aggregate-listed c =
+    let r = c .before .before .before .read in
+    sym (length-take-le (r .result) (r .last .1 .0) (r .ensures))
+
+listed-requires : tie.Need-listed-requires
+listed-requires c κs = search needs
+
+array-share-prefix-bytes-4 : tie.Need-array-share-prefix-bytes-4
+array-share-prefix-bytes-4 c = search needs
+
+slice-aggregate-checked : tie.Need-slice-aggregate-checked
+slice-aggregate-checked c =
+    let r = c .before .before .before .read in
+    sym (length-take-le (r .result) (r .last .1 .0) (r .ensures))
+
+checked-requires : tie.Need-checked-requires
+checked-requires c κs = search needs
+
+slice-aggregate-repeated : tie.Need-slice-aggregate-repeated
+slice-aggregate-repeated c = search needs
+
+repeated-requires : tie.Need-repeated-requires
+repeated-requires c κs = search needs
+
 slice-aggregate-text : tie.Need-slice-aggregate-text
 slice-aggregate-text c = search needs
 
@@ -72,6 +100,15 @@ returns-4 c = search needs
 
 returns-5 : tie.Need-returns-5
 returns-5 c = search needs
+
+returns-6 : tie.Need-returns-6
+returns-6 c = search needs
+
+returns-7 : tie.Need-returns-7
+returns-7 c = search needs
+
+returns-8 : tie.Need-returns-8
+returns-8 c = search needs
 
 pub case-spec : {M : Type 1} → statement M
 case-spec =
@@ -93,8 +130,19 @@ case-spec =
     array-share-prefix-bytes-2
     slice-aggregate-encoded
     encoded-requires
+    array-share-prefix-bytes-3
+    slice-aggregate-listed
+    listed-requires
+    array-share-prefix-bytes-4
+    slice-aggregate-checked
+    checked-requires
+    slice-aggregate-repeated
+    repeated-requires
     slice-aggregate-text
     text-requires-2
     returns-3
     returns-4
-    returns-5)
+    returns-5
+    returns-6
+    returns-7
+    returns-8)
