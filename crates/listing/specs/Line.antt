@@ -1,5 +1,5 @@
 -- Document 01: one listing line, and the refusals of line, 25 and then 23.
-use Prim.Native.Nat.{ℕ}
+use Prim.Native.Nat.{ℕ, _≤_}
 use mathlib.Core.Bool.{Bool, true, cond, _&&_}
 use mathlib.Core.List.{List, _++_}
 use mathlib.Core.Path.{_≡_}
@@ -85,8 +85,9 @@ afterLine t stage depth buffer =
     (lineOf t stage depth ++ drop (length (lineOf t stage depth)) buffer)
     buffer
 
--- the promise of line: its answer, the answer's numbers and the buffer afterwards
+-- the promise of line: its answer, the answer's numbers and the buffer afterwards; and 128 bytes are room enough for every line
 pub record Lists (t : Token) (stage depth : ℕ) (before after : List ℕ) (r : Line) : Type 0 where
   pub answer : r ≡ lineAnswer t stage depth before
   pub numbers : lineNumbers r ≡ lineFault t stage depth before
   pub buffer : after ≡ afterLine t stage depth before
+  pub short : isNameable t stage depth ≡ true → length (lineOf t stage depth) ≤ 128

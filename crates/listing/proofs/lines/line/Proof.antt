@@ -37,7 +37,7 @@ returns-2 c =
     let e = c .before .before .before in
     let n = e .before .before .before .nameable in
     let m = measured (e .put-line .result) (e .put-line .last .0) (search needs) (e .put-line .ensures .text) in
-    rw (c .refused2 .ensures) (too-short _ _ _ _ (sym (n .ensures) ∙ not-false (n .result) (e .before .before .if1 .left)) (rw (← m) (c .before .if2 .taken)))
+    rw (c .refused2 .ensures) (too-short _ _ _ _ (sym (n .ensures) ∙ not-false (n .result) (e .before .before .if1 .left)) (rw (← m) (c .before .if2 .taken)) (rw (← m) (e .put-line .ensures .room)))
 
 array-share-prefix-whole : tie.Need-array-share-prefix-whole
 array-share-prefix-whole c = search needs
@@ -61,7 +61,7 @@ returns-3 c =
     let e = c .before .before .before .before .before .before .before in
     let n = e .before .before .before .nameable in
     let short = length-take-le (e .put-line .result) (e .put-line .last .0) (search needs) in
-    listed _ _ _ _ (sym (n .ensures) ∙ not-false (n .result) (e .before .before .if1 .left)) (omega (arith, short, p .ensures .0 .room)) (p .kept .0) (p .ensures .0 .text ∙ e .put-line .ensures .text) (p .ensures .1)
+    listed _ _ _ _ (sym (n .ensures) ∙ not-false (n .result) (e .before .before .if1 .left)) (omega (arith, short, p .ensures .0 .room, e .put-line .ensures .room)) (omega (arith, short, p .ensures .0 .room)) (p .kept .0) (p .ensures .0 .text ∙ e .put-line .ensures .text) (p .ensures .1)
 
 pub line-spec : {M : Type 1} → statement M
 line-spec =
