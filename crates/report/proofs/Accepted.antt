@@ -1,0 +1,279 @@
+-- No line is refused on an accepted program: each of its tokens decodes to a record that has a line, at a depth of at most 16.
+-- Assumes nothing.
+use Prim.Native.Nat.{ℕ, zero, suc, _+_, _-_, _≤_, _<_}
+use mathlib.Core.Bool.{Bool, true, false, not, cond, _&&_, _||_, true≢false}
+use mathlib.Core.List.{List, [], _∷_, _++_}
+use mathlib.Core.Option.{Option, none, some, Option·some-ne-none}
+use mathlib.Core.Path.{_≡_, refl, _∙_, sym, ap, subst}
+use native.Mathlib.Decide.{decLt}
+use native.Mathlib.Omega.{arith}
+use lib.Dec.{eqb, ltb, leb}
+use lib.ListN.{length, length-take, length-drop}
+use borrow.Author.Tests.{ne-eqb, le-leb, ltb-false, leb-false, eqb-true, not-false}
+use Rattle.bytecode.specs.Opcodes.{shapeOf}
+use Rattle.bytecode.specs.Fields.{fieldsOf}
+use Rattle.bytecode.specs.Records.{destinationOf, operandOf, tokenOf}
+use Rattle.bytecode.specs.Decode.{tokenFault, decodeOf}
+use Rattle.bytecode.specs.Encode.{destinationFits, operandFits, isEncodable}
+use Rattle.bytecode.specs.declared.opcodes.OperandShape.{OperandShape}
+use Rattle.bytecode.specs.declared.opcodes.OperandShape.the-variants.{Unused as NoField, Source as SourceField, Sampler as SamplerField}
+use Rattle.bytecode.specs.declared.answers.Decoded.the-variants.{Token as Decodes}
+use Rattle.bytecode.specs.declared.record.Destination.{Destination}
+use Rattle.bytecode.specs.declared.record.Destination.the-variants.{Unused as NoDestination, Masked}
+use Rattle.bytecode.specs.declared.record.Operand.{Operand}
+use Rattle.bytecode.specs.declared.record.Operand.the-variants.{Unused as NoOperand, Direct, Indexed, Sampler as Sampled}
+use Rattle.bytecode.specs.declared.record.Sampler.{Sampler}
+use Rattle.bytecode.proofs.DecodeLaws.{no-faults}
+use Rattle.bytecode.proofs.RegisterAgain.{register-fits}
+use Rattle.bytecode.proofs.SourceAgain.{source-fits}
+use Rattle.bytecode.proofs.SamplerAgain.{sampler-fits}
+use Rattle.registers.specs.Counts.{countOf}
+use Rattle.registers.specs.Uses.{isReadable, isWritable}
+use Rattle.paths.specs.Paths.{Flow, plain, opener, els, eif, source1, source2, TokenFault}
+use Rattle.paths.specs.Nesting.{Branch, branchesAfter, misplaced}
+use Rattle.paths.specs.Faults.{Answer, accepted, refused}
+use Rattle.paths.specs.Reads.{rowCount2}
+use Rattle.paths.specs.Check as check
+use Rattle.paths.specs.Check.{lacks, setBefore, judge, nextState, checkFrom, start, verdictOf}
+use Rattle.listing.specs.Line.{samplerHasNames, destinationHasNames, operandHasNames, isNameable}
+use Rattle.verifier.specs.Rules.{destinationWrong, samplerWrong, selectorsDiffer, matrixSwizzled, stageOf, tokenCount}
+use Rattle.verifier.specs.Order.{Rule, firstFault, headerRules, sourceRules, tokenRules, recordOf, tokenAt, pathTokenAt, tokensFrom, tokensOf}
+use Rattle.verifier.specs.Verdict.{program, answerOf, afterHeader, verdict}
+use Rattle.verifier.specs.declared.answers.Program.{Program}
+use Rattle.verifier.specs.declared.answers.Checked.{Checked}
+use Rattle.verifier.specs.declared.answers.Checked.the-variants.{Accepted, Refused}
+use Rattle.verifier.proofs.HeaderLaw.{has-header}
+use Rattle.report.specs.Depth.{shownDepth, openedAfter}
+use Rattle.report.specs.Lines.{Listable}
+
+-- ---- no rule is broken
+
+abbrev AllKept : List Rule → Type 0
+AllKept [] = Unit {0}
+AllKept (r ∷ rs) = (r .broken ≡ false) × AllKept rs
+
+none-broken : (rs : List Rule) → firstFault rs ≡ none → AllKept rs
+none-broken [] e = tt
+none-broken (r ∷ rs) e = go (λ k. none-broken rs k) (r .broken) refl e
+  where
+    go : (firstFault rs ≡ none → AllKept rs) → (b : Bool) → r .broken ≡ b → cond b (some (record { number = r .number; part = r .part })) (firstFault rs) ≡ none → AllKept (r ∷ rs)
+    go ih true q k = absurd (Option·some-ne-none _ k)
+    go ih false q k = (q, ih k)
+
+append-kept : (rs qs : List Rule) → AllKept (rs ++ qs) → AllKept rs × AllKept qs
+append-kept [] qs k = (tt, k)
+append-kept (r ∷ rs) qs k = let (a, b) = append-kept rs qs (k .1) in ((k .0, a), b)
+
+or-left : (a b : Bool) → (a || b) ≡ false → a ≡ false
+or-left true b e = e
+or-left false b e = refl
+
+or-right : (a b : Bool) → (a || b) ≡ false → b ≡ false
+or-right true b e = absurd (true≢false e)
+or-right false b e = e
+
+of-three : (a b c : Bool) → (a || b || c) ≡ false → a ≡ false
+of-three a b c e = or-left a b (or-left (a || b) c e)
+
+of-five : (a b c d e : Bool) → (a || b || c || d || e) ≡ false → (b ≡ false) × (c ≡ false)
+of-five a b c d e k =
+    let k3 = or-left (a || b || c) d (or-left (a || b || c || d) e k) in
+    (or-right a b (or-left (a || b) c k3), or-right (a || b) c k3)
+
+-- all but the second
+of-seven : (a b c d e f g : Bool) → (a || b || c || d || e || f || g) ≡ false
+    → (a ≡ false) × (c ≡ false) × (d ≡ false) × (e ≡ false) × (f ≡ false) × (g ≡ false)
+of-seven a b c d e f g k =
+    let k6 = or-left (a || b || c || d || e || f) g k in
+    let k5 = or-left (a || b || c || d || e) f k6 in
+    let k4 = or-left (a || b || c || d) e k5 in
+    let k3 = or-left (a || b || c) d k4 in (
+      or-left a b (or-left (a || b) c k3),
+      or-right (a || b) c k3,
+      or-right (a || b || c) d k4,
+      or-right (a || b || c || d) e k5,
+      or-right (a || b || c || d || e) f k6,
+      or-right (a || b || c || d || e || f) g k,
+    )
+
+-- ---- every register has a name
+
+neither : (a b : Bool) → ((a && false) || (b && false)) ≡ false
+neither true true = refl
+neither true false = refl
+neither false true = refl
+neither false false = refl
+
+readable-named : (kind stage : ℕ) → isReadable kind stage ≡ true → leb kind 6 ≡ true
+readable-named kind stage e =
+    elim (decLt 6 kind) [
+      | yes l ↦
+          absurd
+          (true≢false
+          (sym e
+          ∙ rw (ne-eqb kind 0 (λ z. omega (arith, l, z)), ne-eqb kind 1 (λ z. omega (arith, l, z)), ne-eqb kind 2 (λ z. omega (arith, l, z)), ne-eqb kind 4 (λ z. omega (arith, l, z)))
+          (neither (eqb stage 0) (eqb stage 1))))
+      | no l ↦ le-leb kind 6 (omega (arith, l))
+    ]
+
+writable-named : (kind stage : ℕ) → isWritable kind stage ≡ true → leb kind 6 ≡ true
+writable-named kind stage e =
+    elim (decLt 6 kind) [
+      | yes l ↦
+          absurd
+          (true≢false
+          (sym e
+          ∙ rw (ne-eqb kind 2 (λ z. omega (arith, l, z)), ne-eqb kind 3 (λ z. omega (arith, l, z)), ne-eqb kind 4 (λ z. omega (arith, l, z)), ne-eqb kind 6 (λ z. omega (arith, l, z)))
+          (neither (eqb stage 0) (eqb stage 1))))
+      | no l ↦ le-leb kind 6 (omega (arith, l))
+    ]
+
+module _ (count : ℕ → ℕ) (stage : ℕ) where
+  destination-named : (d : Destination) → destinationWrong count stage d ≡ false → destinationHasNames d ≡ true
+  destination-named NoDestination e = refl
+  destination-named (Masked r) e = writable-named (r .kind) stage (not-false _ (or-left _ _ e))
+
+  sampler-named : (s : Sampler) → samplerWrong count s ≡ false → samplerHasNames s ≡ true
+  unfolding samplerHasNames
+  sampler-named s e =
+      let (kind, filter, wrap, dimension, mipmap, special) = of-seven (not (eqb (s .kind) 5)) (leb (count 5) (s .number)) (ltb 1 (s .filter)) (ltb 1 (s .wrap)) (ltb 1 (s .dimension)) (ltb 2 (s .mipmap)) (not (eqb (s .special) 0)) e in
+      rw (
+        not-false (eqb (s .kind) 5) kind,
+        le-leb (s .filter) 1 (ltb-false 1 (s .filter) filter),
+        le-leb (s .wrap) 1 (ltb-false 1 (s .wrap) wrap),
+        le-leb (s .dimension) 1 (ltb-false 1 (s .dimension) dimension),
+        le-leb (s .mipmap) 2 (ltb-false 2 (s .mipmap) mipmap),
+        not-false (eqb (s .special) 0) special,
+      )
+
+  source-named : (rows : ℕ) (swizzled : ℕ → Bool) (part : ℕ) (o : Operand) → AllKept (sourceRules count stage rows swizzled part o) → operandHasNames o ≡ true
+  source-named rows swizzled part NoOperand k = refl
+  source-named rows swizzled part (Direct s) k =
+      readable-named (s .kind) stage
+      (not-false (isReadable (s .kind) stage)
+      (of-three (not (isReadable (s .kind) stage)) (ltb (count (s .kind)) (s .number + rows)) (not (eqb (s .offset) 0)) (k .0)))
+  source-named rows swizzled part (Indexed s) k =
+      let (kind, index) = of-five (not (eqb stage 0)) (not (eqb (s .kind) 1)) (ltb 2 (s .«index_kind»)) (leb (count (s .«index_kind»)) (s .number)) (ltb (count 1) (s .offset + rows)) (k .0) in
+      let one = eqb-true (s .kind) 1 (not-false (eqb (s .kind) 1) kind) in
+      let two = ltb-false 2 (s .«index_kind») index in
+      rw (le-leb (s .kind) 6 (omega (arith, one)), le-leb (s .«index_kind») 6 (omega (arith, two)))
+  source-named rows swizzled part (Sampled s) k = sampler-named s (k .0)
+
+-- ---- every record of a listed opcode is encodable
+
+destination-fits : (used : Bool) (w : ℕ) → destinationFits used (destinationOf used w) ≡ true
+destination-fits true w = register-fits w
+destination-fits false w = refl
+
+operand-fits : (shape : OperandShape) (w : ℕ) → operandFits shape (operandOf shape w) ≡ true
+operand-fits NoField w = refl
+operand-fits SourceField w = source-fits w
+operand-fits SamplerField w = sampler-fits w
+
+encodable : (s : List ℕ) → shapeOf (fieldsOf s .opcode) .listed ≡ true → isEncodable (recordOf s) ≡ true
+unfolding isEncodable tokenOf
+encodable s e =
+    let h = shapeOf (fieldsOf s .opcode) in
+    rw (e, destination-fits (h .destination) (fieldsOf s .destination), operand-fits (h .source1) (fieldsOf s .source1), operand-fits (h .source2) (fieldsOf s .source2))
+
+-- ---- a token without faults 9 to 19
+
+module _ (count : ℕ → ℕ) (edition stage : ℕ) (s : List ℕ) (e : firstFault (tokenRules count edition stage s) ≡ none) where
+  all : AllKept (tokenRules count edition stage s)
+  all = none-broken (tokenRules count edition stage s) e
+
+  token-decodes : length s ≡ 24 → decodeOf s ≡ Decodes (recordOf s)
+  unfolding tokenFault
+  token-decodes h = sym (no-faults s h (rw (all .0, all .1 .1 .1 .0, all .1 .1 .1 .1 .0)) .answer)
+
+  token-named : (depth : ℕ) → stage ≤ 1 → depth ≤ 16 → isNameable (recordOf s) stage depth ≡ true
+  unfolding isNameable
+  token-named depth a b =
+      let t = recordOf s in
+      let (k1, k2) = append-kept (sourceRules count stage 1 (selectorsDiffer (t .opcode)) 2 (t .source1)) _ (all .1 .1 .1 .1 .1 .1 .1) in
+      rw (
+        encodable s (not-false _ (all .0)),
+        le-leb stage 1 a,
+        le-leb depth 16 b,
+        destination-named count stage (t .destination) (all .1 .1 .1 .1 .1 .0),
+        source-named count stage 1 (selectorsDiffer (t .opcode)) 2 (t .source1) k1,
+        source-named count stage (rowCount2 (t .opcode)) (matrixSwizzled (t .opcode)) 3 (t .source2) k2,
+      )
+
+-- ---- the depth never passes 16
+
+depth-law : (f : Flow) (bs : List Branch) (n : ℕ) → misplaced f bs ≡ false → length bs ≤ 16
+    → (shownDepth f (length bs) ≤ 16) × (length (branchesAfter f n bs) ≡ openedAfter f (length bs)) × (length (branchesAfter f n bs) ≤ 16)
+depth-law plain bs n e h = (h, refl, h)
+depth-law opener bs n e h = (h, omega arith, omega (arith, leb-false 16 (length bs) e))
+depth-law els [] n e h = absurd (true≢false e)
+depth-law els (b ∷ bs) n e h = (omega (arith, h), refl, h)
+depth-law eif [] n e h = absurd (true≢false e)
+depth-law eif (b ∷ bs) n e h = (omega (arith, h), omega arith, omega (arith, h))
+
+-- ---- an accepted program
+
+abbrev IsAccepted : Answer → Type 0
+IsAccepted accepted = Unit {0}
+IsAccepted (refused number token part) = ⊥
+
+judge-accepts : (o : Option TokenFault) (stray lacks1 lacks2 : Bool) (n : ℕ) (later : Answer) → judge o stray lacks1 lacks2 n later ≡ accepted
+    → (o ≡ none) × (stray ≡ false) × (later ≡ accepted)
+judge-accepts (some f) stray lacks1 lacks2 n later e = absurd (subst IsAccepted (sym e) tt)
+judge-accepts none true lacks1 lacks2 n later e = absurd (subst IsAccepted (sym e) tt)
+judge-accepts none false true lacks2 n later e = absurd (subst IsAccepted (sym e) tt)
+judge-accepts none false false true n later e = absurd (subst IsAccepted (sym e) tt)
+judge-accepts none false false false n later e = (refl, refl, e)
+
+module _ (edition : ℕ) (bytes : List ℕ) (header : 7 ≤ length bytes) (low : stageOf bytes ≤ 1) where
+  token-length : (n : ℕ) → n < tokenCount bytes → length (tokenAt bytes n) ≡ 24
+  token-length n l = simp (length-take, length-drop) (omega arith)
+
+  listable : (left n : ℕ) (st : check.State) (m : ℕ) → n + left ≤ tokenCount bytes → length (st .openBranches) ≤ 16
+      → checkFrom st m (tokensFrom edition bytes n left) ≡ accepted → Listable (stageOf bytes) bytes n left (length (st .openBranches))
+  unfolding checkFrom
+  listable zero n st m l h e = tt
+  listable (suc left) n st m l h e =
+      let s = tokenAt bytes n in
+      let count : ℕ → ℕ = λ k. countOf k edition (stageOf bytes) in
+      let pt = pathTokenAt count edition (stageOf bytes) s in
+      let bs = st .openBranches in
+      let (o, stray, later) = judge-accepts (pt .fault) (misplaced (pt .flow) bs) (lacks (setBefore pt st) (pt .reads source1)) (lacks (setBefore pt st) (pt .reads source2)) m (checkFrom (nextState st m pt) (suc m) (tokensFrom edition bytes (n + 1) left)) e in
+      let (shown, after, most) = depth-law (pt .flow) bs m stray h in (
+        token-decodes count edition (stageOf bytes) s o (token-length n (omega (arith, l))),
+        token-named count edition (stageOf bytes) s o (shownDepth (pt .flow) (length bs)) low shown,
+        subst (Listable (stageOf bytes) bytes (n + 1) left) after
+            (listable left (n + 1) (nextState st m pt) (suc m) (omega (arith, l)) most later),
+      )
+
+-- what is known of an accepted program
+pub record Listing (bytes : List ℕ) (p : Program) : Type 0 where
+  pub header : 7 ≤ length bytes
+  pub is : p ≡ program (stageOf bytes) (tokenCount bytes)
+  pub lines : Listable (stageOf bytes) bytes 0 (tokenCount bytes) 0
+
+abbrev programIn : Checked → Program
+programIn (Accepted p) = p
+programIn (Refused r) = program 0 0
+
+abbrev IsProgram : Checked → Type 0
+IsProgram (Accepted p) = Unit {0}
+IsProgram (Refused r) = ⊥
+
+module _ (edition : ℕ) (bytes : List ℕ) (p : Program) where
+  pub lists : verdict edition bytes ≡ Accepted p → Listing bytes p
+  unfolding verdict
+  lists = go (firstFault (headerRules edition bytes)) refl (verdictOf (tokensOf edition bytes)) refl
+    where
+      go : (o : Option TokenFault) → firstFault (headerRules edition bytes) ≡ o → (a : Answer) → verdictOf (tokensOf edition bytes) ≡ a
+          → afterHeader o (answerOf bytes a) ≡ Accepted p → Listing bytes p
+      go (some f) e a k q = absurd (subst IsProgram (sym q) tt)
+      go none e (refused number token part) k q = absurd (subst IsProgram (sym q) tt)
+      go none e accepted k q =
+          let header = has-header edition bytes e in
+          let low = ltb-false 1 (stageOf bytes) (none-broken (headerRules edition bytes) e .1 .1 .1 .1 .1 .0) in
+          record {
+            header = header;
+            is = sym (ap programIn q);
+            lines = listable edition bytes header low (tokenCount bytes) 0 start 0 (omega arith) (omega arith) k;
+          }

@@ -1,0 +1,4 @@
+pub mod Depth
+pub mod Lines
+pub mod Report
+pub mod Text

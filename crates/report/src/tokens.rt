@@ -1,0 +1,117 @@
+// The token lines of a listing.
+ghost use mathlib.Core.Bool.{true};
+ghost use mathlib.Core.Path.{_≡_};
+ghost use Prim.Native.Nat.{_+_, _-_, _*_, _≤_};
+ghost use lib.ListN.{length};
+ghost use Rattle.bytecode.specs.Decode.{decodeOf};
+ghost use Rattle.bytecode.specs.declared.answers.Decoded.the-variants.{Token as Accepted};
+ghost use Rattle.paths.specs.Tokens.{flowOf};
+ghost use Rattle.listing.specs.Line.{lineOf, isNameable};
+ghost use Rattle.listing.specs.Writers.{Appends};
+ghost use Rattle.verifier.specs.Rules.{tokenCount};
+ghost use Rattle.verifier.specs.Order.{tokenAt, recordOf};
+ghost use Rattle.report.specs.Depth.{shownDepth, openedAfter};
+ghost use Rattle.report.specs.Lines.{linesFrom, Listable};
+use crate::text;
+use bytecode::answers::Decoded;
+use bytecode::record::Destination;
+use bytecode::record::Operand;
+use bytecode::record::Token;
+use listing::answers::Line;
+
+// A line for each token, none of which has more than 128 bytes.
+pub(crate) fn put_tokens(out: &mut [u8], at: usize, stage: u8, bytes: &[u8]) -> usize
+    requires { ⌜ 7 ≤ length (now bytes) ⌝ }
+    requires { ⌜ at + 128 * tokenCount (now bytes) ≤ length (now out) ⌝ }
+    requires { ⌜ Listable stage (now bytes) 0 (tokenCount (now bytes)) 0 ⌝ }
+    ensures { λ r. ⌜ Appends (linesFrom stage (now (bytes .entry)) 0 (tokenCount (now (bytes .entry))) 0) (128 * tokenCount (now (bytes .entry))) at (now (out .entry)) (now (out .exit)) r ⌝ }
+{
+    let count = (bytes.len() - 7) / 24;
+    let mut place = at;
+    let mut opened = 0;
+    let mut token = 0;
+    while token < count {
+        let record = token_at(bytes, token);
+        let depth = shown_depth(record.opcode, opened);
+        place = put_line(out, place, record, stage, depth);
+        opened = opened_after(record.opcode, opened);
+        token += 1;
+    }
+    place
+}
+
+// The record of a token that decode does not refuse.
+fn token_at(bytes: &[u8], token: usize) -> Token
+    requires { ⌜ (7 + token * 24) + 24 ≤ length (now bytes) ⌝ }
+    requires { ⌜ decodeOf (tokenAt (now bytes) token) ≡ Accepted (recordOf (tokenAt (now bytes) token)) ⌝ }
+    ensures { λ r. ⌜ r ≡ recordOf (tokenAt (now (bytes .entry)) token) ⌝ }
+{
+    let from = 7 + token * 24;
+    let end = from + 24;
+    match bytecode::decode(&bytes[from..end]) {
+        Decoded::Token(t) => t,
+        Decoded::Refused(_) => blank(),
+    }
+}
+
+// What token_at has for a token that is refused, which none is.
+fn blank() -> Token {
+    Token {
+        opcode: 0,
+        destination: Destination::Unused,
+        source1: Operand::Unused,
+        source2: Operand::Unused,
+    }
+}
+
+// The line of a record that has one.
+fn put_line(out: &mut [u8], at: usize, token: Token, stage: u8, depth: u8) -> usize
+    requires { ⌜ at + 128 ≤ length (now out) ⌝ }
+    requires { ⌜ isNameable token stage depth ≡ true ⌝ }
+    ensures { λ r. ⌜ Appends (lineOf token stage depth) 128 at (now (out .entry)) (now (out .exit)) r ⌝ }
+{
+    let mut whole = [0u8; 128];
+    match listing::line(token, stage, depth, &mut whole) {
+        Line::Length(n) => text::put_bytes(out, at, &whole[..n]),
+        Line::Refused(_) => at,
+    }
+}
+
+// Els, 20, and eif, 21, stand at the depth of their opener.
+fn shown_depth(opcode: u32, opened: u8) -> u8
+    ensures { λ r. ⌜ r ≡ shownDepth (flowOf opcode) opened ⌝ }
+{
+    if opcode == 0x20 {
+        return less(opened);
+    }
+    if opcode == 0x21 {
+        return less(opened);
+    }
+    opened
+}
+
+// How many branches are open after a token; 1c to 1f are openers.
+fn opened_after(opcode: u32, opened: u8) -> u8
+    requires { ⌜ opened ≤ 17 ⌝ }
+    ensures { λ r. ⌜ r ≡ openedAfter (flowOf opcode) opened ⌝ }
+{
+    if opcode < 0x1c {
+        return opened;
+    }
+    if opcode < 0x20 {
+        return opened + 1;
+    }
+    if opcode == 0x21 {
+        return less(opened);
+    }
+    opened
+}
+
+fn less(opened: u8) -> u8
+    ensures { λ r. ⌜ r ≡ opened - 1 ⌝ }
+{
+    if opened == 0 {
+        return 0;
+    }
+    opened - 1
+}
