@@ -1,42 +1,29 @@
 -- The state that the code keeps stands for the state of the check over paths, and a token makes of both the same.
 -- Assumes nothing.
-use Prim.Native.Nat.{ℕ, zero, suc, _+_, _-_, _≤_, _<_}
-use mathlib.Core.Bool.{Bool, true, false, not, cond, _&&_, _||_}
+use Prim.Native.Nat.{ℕ, zero, suc, _≤_, _<_}
+use mathlib.Core.Bool.{true, false, cond, _||_}
 use mathlib.Core.List.{List, [], _∷_}
-use mathlib.Core.Option.{none}
-use mathlib.Core.Path.{_≡_, refl, _∙_, sym, ap, ap₂, fun-ext}
+use mathlib.Core.Path.{_≡_, refl, _∙_, sym, ap, subst⁻¹}
 use native.Mathlib.Decide.{decLt}
-use native.Mathlib.Numerals.{add-one}
 use native.Mathlib.Omega.{arith}
-use lib.Dec.{eqb, ltb, leb, eqb→eq}
-use lib.ListN.{length, getD, set, length-set}
-use borrow.Author.Tests.{lt-ltb, le-ltb, le-leb, lt-leb, eq-eqb, ne-eqb, leb-false}
+use lib.Dec.{eqb, ltb, eqb→eq}
+use lib.ListN.{length, getD, set}
+use borrow.Author.Tests.{lt-ltb, le-ltb, ne-eqb}
 use Rattle.bytecode.specs.Opcodes.{isIn, openers}
-use Rattle.bytecode.specs.declared.record.MaskedRegister.{MaskedRegister}
-use Rattle.bytecode.specs.declared.record.Destination.{Destination}
-use Rattle.bytecode.specs.declared.record.Destination.the-variants.{Unused as NoDestination, Masked}
-use Rattle.bytecode.specs.declared.record.Token.{Token}
-use Rattle.paths.specs.Paths.{Flow, plain, opener, els, eif, PathToken, source1, source2}
+use Rattle.paths.specs.Paths.{Flow, plain, opener, els, eif}
 use Rattle.paths.specs.Nesting as nesting
-use Rattle.paths.specs.Nesting.{misplaced, branchesAfter}
-use Rattle.paths.specs.Unwritten.{ComponentSet, nothing, adds}
-use Rattle.paths.specs.Reads.{writesInto, temporaries, reads1, reads2}
-use Rattle.paths.specs.Tokens.{flowOf, pathTokenOf}
-use Rattle.paths.specs.Access.{access1Of, access2Of}
-use Rattle.paths.specs.Written.{componentSet, joinOf}
+use Rattle.paths.specs.Nesting.{misplaced}
+use Rattle.paths.specs.Unwritten.{ComponentSet}
+use Rattle.paths.specs.Tokens.{flowOf}
+use Rattle.paths.specs.Written.{componentSet}
 use Rattle.paths.specs.Check as check
-use Rattle.paths.specs.Check.{lacks, currentAt, keptAt, keptAfter, setBefore, setAfter, nextState}
-use Rattle.paths.specs.declared.written.Written.{Written}
-use Rattle.paths.proofs.AccessLaws.{lacks-reads1, lacks-reads2}
-use Rattle.paths.proofs.WrittenLaws.{in-join, in-written}
-use Rattle.verifier.specs.State.{flowOfCode, startState, blankBranch, topOf, isMisplaced, exchangedState, joinedState, metState, openedState, partedState, markedState, wroteState, withCurrent}
-use Rattle.verifier.specs.Step.{lacksAccess, nextOf}
+use Rattle.verifier.specs.State.{flowOfCode, startState, blankBranch, slotOf, slotAfter, topOf, withTop, isMisplaced}
 use Rattle.verifier.specs.declared.state.Flow as code
 use Rattle.verifier.specs.declared.state.Flow.the-variants.{Plain, Opener, Els, Eif}
 use Rattle.verifier.specs.declared.state.Branch.{Branch}
 use Rattle.verifier.specs.declared.state.State.{State}
 use Rattle.laws.proofs.Every.{below}
-use Rattle.verifier.proofs.Stack.{stackOf, under, over, stack-length}
+use Rattle.verifier.proofs.Stack.{stackOf, stored-own, stack-length}
 
 -- ---- what each part stands for
 
@@ -108,16 +95,36 @@ flow-is o =
           )
     ]
 
+-- ---- the innermost branch
+
+-- a slot is a place of the array; that of d + 1 open branches is the d-th
+pub slot-in : (d : ℕ) → slotOf d < 16
+slot-in d = omega arith
+
+pub slot-of : (d : ℕ) → d < 16 → slotOf (suc d) ≡ d
+slot-of d h = omega arith
+
+pub slot-stays : (d : ℕ) → slotAfter d d ≡ slotOf d
+slot-stays d = rw (le-ltb d d (omega arith))
+
+-- a state with its own top
+pub own-top : (st : State) → withTop st (topOf st) ≡ st
+own-top st =
+    ap (λ bs. record { current = st .current; depth = st .depth; branches = bs })
+    (ap (λ i. set (st .branches) i (topOf st .branch)) (slot-stays (st .depth)) ∙ stored-own blankBranch (st .branches) (slotOf (st .depth)))
+
+-- a step with a fault leaves it as it is
+pub valid-own : (st : State) → Valid st → Valid (withTop st (topOf st))
+valid-own st v = subst⁻¹ Valid (own-top st) v
+
 -- ---- 20
 
 -- a valid state with no branch, or with d + 1
 module _ (st : State) (v : Valid st) where
-  pub inside : (d : ℕ) → st .depth ≡ suc d → topOf st ≡ getD (st .branches) d blankBranch
-  unfolding topOf
+  pub inside : (d : ℕ) → st .depth ≡ suc d → topOf st .branch ≡ getD (st .branches) d blankBranch
   inside d e =
       let h = v .depth in
-      let m : st .depth - 1 ≡ d = omega (arith, e) in
-      simp (le-ltb (st .depth) 1 (omega (arith, e)), le-ltb 16 (st .depth) (omega (arith, h)), m)
+      ap (λ i. getD (st .branches) i blankBranch) (ap slotOf e ∙ slot-of d (omega (arith, e)))
 
   not-outside : (d : ℕ) → st .depth ≡ suc d → (ltb (st .depth) 1 || ltb 16 (st .depth)) ≡ false
   not-outside d e =
@@ -127,16 +134,16 @@ module _ (st : State) (v : Valid st) where
   pub outside : st .depth ≡ 0 → (ltb (st .depth) 1 || ltb 16 (st .depth)) ≡ true
   outside e = simp (lt-ltb (st .depth) 1 (omega (arith, e)))
 
-  pub misplaced-is : (f : code.Flow) → isMisplaced st f ≡ misplaced (flowIs f) (branchesIn st)
+  pub misplaced-is : (f : code.Flow) → isMisplaced (topOf st) f ≡ misplaced (flowIs f) (branchesIn st)
   misplaced-is Plain = refl
   misplaced-is Opener = rw (stack-length branchOf blankBranch (st .branches) (st .depth))
   misplaced-is Els = go (st .depth) refl
     where
-      go : (n : ℕ) → st .depth ≡ n → isMisplaced st Els ≡ misplaced els (stackOf branchOf blankBranch (st .branches) n)
+      go : (n : ℕ) → st .depth ≡ n → isMisplaced (topOf st) Els ≡ misplaced els (stackOf branchOf blankBranch (st .branches) n)
       go zero e = rw (outside e)
       go (suc d) e = rw (not-outside d e, inside d e)
   misplaced-is Eif = go (st .depth) refl
     where
-      go : (n : ℕ) → st .depth ≡ n → isMisplaced st Eif ≡ misplaced eif (stackOf branchOf blankBranch (st .branches) n)
+      go : (n : ℕ) → st .depth ≡ n → isMisplaced (topOf st) Eif ≡ misplaced eif (stackOf branchOf blankBranch (st .branches) n)
       go zero e = outside e
       go (suc d) e = not-outside d e

@@ -3,7 +3,7 @@
 use Prim.Native.Nat.{ℕ, zero, suc, _+_, _-_, _*_, _/_, _%_, _^_, _≤_, _<_}
 use mathlib.Core.Bool.{Bool, true, false, not, cond, _&&_}
 use mathlib.Core.List.{List, [], _∷_}
-use mathlib.Core.Path.{_≡_, refl, _∙_, sym, ap, ap₂, subst, fun-ext}
+use mathlib.Core.Path.{_≡_, refl, _∙_, sym, ap, ap₂, subst, subst⁻¹, fun-ext}
 use native.Mathlib.Nat.{zero-div}
 use native.Mathlib.Numerals.{add-one}
 use native.Mathlib.Omega.{arith}
@@ -21,12 +21,13 @@ use Rattle.paths.specs.Check.{start, ending, checkFrom, verdictOf}
 use Rattle.verifier.specs.Rules.{stageOf, tokenCount}
 use Rattle.verifier.specs.Profile.{profileOf}
 use Rattle.verifier.specs.Order.{pathTokenAt, tokenAt, tokensFrom, tokensOf}
-use Rattle.verifier.specs.State.{noneWritten, startState, topOf}
+use Rattle.verifier.specs.State.{noneWritten, startState, topOf, withTop}
 use Rattle.verifier.specs.Step.{stepOf}
 use Rattle.verifier.specs.Verdict.{answerOf}
 use Rattle.verifier.specs.Finish.{finishOf}
 use Rattle.verifier.specs.declared.profile.Profile.{Profile}
 use Rattle.verifier.specs.declared.state.State.{State}
+use Rattle.verifier.specs.declared.state.Top.{Top}
 use Rattle.verifier.specs.declared.step.Stepped.{Stepped}
 use Rattle.verifier.specs.declared.answers.Checked.the-variants.{Refused}
 use Rattle.verifier.proofs.Abstract.{abstractOf, branchesIn, Valid, inside}
@@ -74,29 +75,35 @@ module _ (edition : ℕ) (bytes : List ℕ) where
     token-length : length (tokenAt bytes n) ≡ 24
     token-length = simp (length-take, length-drop) (omega arith)
 
-    -- the profile and the step as the code makes them
-    module _ (profile : Profile) (made : profile ≡ profileOf edition (stageOf bytes)) (r : Stepped)
-        (stepped : r ≡ stepOf st profile n (take (7 + n * 24 + 24 - (7 + n * 24)) (drop (7 + n * 24) bytes))) where
-      as-stepped : r ≡ stepOf st (profileOf edition (stageOf bytes)) n (tokenAt bytes n)
+    -- the profile, the top and the step as the code makes them
+    module _ (profile : Profile) (made : profile ≡ profileOf edition (stageOf bytes)) (top : Top) (taken : top ≡ topOf st) (r : Stepped)
+        (stepped : r ≡ stepOf top profile n (take (7 + n * 24 + 24 - (7 + n * 24)) (drop (7 + n * 24) bytes))) where
+      as-stepped : r ≡ stepOf (topOf st) (profileOf edition (stageOf bytes)) n (tokenAt bytes n)
       as-stepped =
           let width : 7 + n * 24 + 24 - (7 + n * 24) ≡ 24 = omega arith in
-          stepped ∙ ap₂ (λ p k. stepOf st p n (take k (drop (7 + n * 24) bytes))) made width
+          stepped
+          ∙ ap (λ t. stepOf t profile n (take (7 + n * 24 + 24 - (7 + n * 24)) (drop (7 + n * 24) bytes))) taken
+          ∙ ap₂ (λ p k. stepOf (topOf st) p n (take k (drop (7 + n * 24) bytes))) made width
 
-      turn : answerFrom st n (left bytes n) ≡ after r n (tokensFrom edition bytes (n + 1) (left bytes (n + 1)))
+      turn : answerFrom st n (left bytes n) ≡ after st r n (tokensFrom edition bytes (n + 1) (left bytes (n + 1)))
       turn =
           let left-is : left bytes n ≡ suc (left bytes (n + 1)) = omega arith in
           ap (answerFrom st n) left-is
           ∙ steps edition (stageOf bytes) n (tokenAt bytes n) token-length st v (tokensFrom edition bytes (n + 1) (left bytes (n + 1))) .0
-          ∙ ap (λ q. after q n (tokensFrom edition bytes (n + 1) (left bytes (n + 1)))) (sym as-stepped)
-
-      pub turn-valid : Valid (r .state)
-      turn-valid = subst (λ q. Valid (q .state)) (sym as-stepped) (steps edition (stageOf bytes) n (tokenAt bytes n) token-length st v [] .1)
-
-      pub goes-on : r .fault .number ≡ 0 → answerFrom st n (left bytes n) ≡ answerFrom (r .state) (n + 1) (left bytes (n + 1))
-      goes-on z = turn ∙ rw (eq-eqb (r .fault .number) 0 z, add-one)
+          ∙ ap (λ q. after st q n (tokensFrom edition bytes (n + 1) (left bytes (n + 1)))) (sym as-stepped)
 
       pub stops : (r .fault .number ≡ 0 → ⊥) → answerOf bytes (answerFrom st n (left bytes n)) ≡ Refused (r .fault)
       stops z = ap (answerOf bytes) turn ∙ rw (ne-eqb (r .fault .number) 0 z)
+
+      -- the state that the code goes on with
+      module _ (next : State) (put : next ≡ withTop st (r .top)) where
+        pub turn-valid : Valid next
+        turn-valid =
+            subst⁻¹ Valid put
+            (subst (λ q. Valid (withTop st (q .top))) (sym as-stepped) (steps edition (stageOf bytes) n (tokenAt bytes n) token-length st v [] .1))
+
+        pub goes-on : r .fault .number ≡ 0 → answerFrom st n (left bytes n) ≡ answerFrom next (n + 1) (left bytes (n + 1))
+        goes-on z = turn ∙ rw (eq-eqb (r .fault .number) 0 z, ← add-one n) (ap (λ s. answerFrom s (n + 1) (left bytes (n + 1))) (sym put))
 
   -- ---- after the last token
 

@@ -4,7 +4,7 @@ use Prim.Native.Nat.{ℕ, zero, suc, _+_, _-_, _≤_, _<_}
 use mathlib.Core.Bool.{Bool, true, false, cond, _&&_, _||_, or-false, true≢false}
 use mathlib.Core.List.{List, [], _∷_}
 use mathlib.Core.Option.{none}
-use mathlib.Core.Path.{_≡_, refl, _∙_, sym, ap, ap₂, fun-ext}
+use mathlib.Core.Path.{_≡_, refl, _∙_, sym, ap, ap₂, subst⁻¹, fun-ext}
 use native.Mathlib.Numerals.{add-one}
 use native.Mathlib.Omega.{arith}
 use lib.Dec.{eqb, ltb, leb}
@@ -24,13 +24,14 @@ use Rattle.paths.specs.Check as check
 use Rattle.paths.specs.Check.{currentAt, keptAt, keptAfter}
 use Rattle.paths.specs.declared.written.Written.{Written}
 use Rattle.paths.proofs.WrittenLaws.{in-join, in-written}
-use Rattle.verifier.specs.State.{blankBranch, topOf, isMisplaced, exchangedState, joinedState, metState, openedState, partedState, wroteState, withCurrent}
+use Rattle.verifier.specs.State.{blankBranch, slotOf, slotAfter, topOf, withTop, isMisplaced, joined, metTop, opened, partedTop, wroteTop, withCurrent}
 use Rattle.verifier.specs.declared.state.Flow as code
 use Rattle.verifier.specs.declared.state.Flow.the-variants.{Plain, Opener, Els, Eif}
 use Rattle.verifier.specs.declared.state.Branch.{Branch}
 use Rattle.verifier.specs.declared.state.State.{State}
-use Rattle.verifier.proofs.Abstract.{branchOf, keptOf, branchesIn, keptIn, abstractOf, flowIs, Valid, outside}
-use Rattle.verifier.proofs.Stack.{stackOf, over}
+use Rattle.verifier.specs.declared.state.Top.{Top}
+use Rattle.verifier.proofs.Abstract.{branchOf, keptOf, branchesIn, keptIn, abstractOf, flowIs, Valid, slot-of, slot-stays, own-top, inside, outside}
+use Rattle.verifier.proofs.Stack.{stackOf, stored-own, over}
 
 -- ---- the write
 
@@ -39,13 +40,13 @@ abbrev pub Kept : Destination → Type 0
 Kept NoDestination = Unit {0}
 Kept (Masked r) = r .kind ≡ 2 → r .number < 32
 
-pub wrote-is : (s : State) (d : Destination) → Kept d
-    → (w : Written) × (wroteState s d ≡ withCurrent s w) × (componentSet w ≡ adds (componentSet (s .current)) (temporaries (writesInto d)))
-wrote-is s NoDestination h = (s .current, refl, fun-ext (λ c. sym (or-false (componentSet (s .current) c))))
-wrote-is s (Masked r) h =
-    (cond (eqb (r .kind) 2) (markOf (s .current) (r .number) (r .mask)) (s .current), go (eqb (r .kind) 2), fun-ext (in-written (s .current) r h))
+pub wrote-is : (t : Top) (d : Destination) → Kept d
+    → (w : Written) × (wroteTop t d ≡ withCurrent t w) × (componentSet w ≡ adds (componentSet (t .current)) (temporaries (writesInto d)))
+wrote-is t NoDestination h = (t .current, refl, fun-ext (λ c. sym (or-false (componentSet (t .current) c))))
+wrote-is t (Masked r) h =
+    (cond (eqb (r .kind) 2) (markOf (t .current) (r .number) (r .mask)) (t .current), go (eqb (r .kind) 2), fun-ext (in-written (t .current) r h))
   where
-    go : (b : Bool) → cond b (withCurrent s (markOf (s .current) (r .number) (r .mask))) s ≡ withCurrent s (cond b (markOf (s .current) (r .number) (r .mask)) (s .current))
+    go : (b : Bool) → cond b (withCurrent t (markOf (t .current) (r .number) (r .mask))) t ≡ withCurrent t (cond b (markOf (t .current) (r .number) (r .mask)) (t .current))
     go true = refl
     go false = refl
 
@@ -59,29 +60,48 @@ nextAbstract a f n after =
       kept = keptAfter f after (keptAt f (a .current) (a .kept));
     }
 
--- what a token makes of a valid state, where the set after its write is w
+-- the state after a token, where the set after its write is w
+abbrev pub stateAfter : State → code.Flow → ℕ → Written → State
+stateAfter st f n w = withTop st (partedTop (withCurrent (metTop (topOf st) f) w) f n)
+
+-- what a token makes of a valid state
 pub record Follows (st : State) (f : code.Flow) (n : ℕ) : Type 0 where
-  pub before : componentSet (metState st f .current) ≡ currentAt (flowIs f) (componentSet (st .current)) (keptIn st)
-  pub after : (w : Written) → abstractOf (partedState (withCurrent (metState st f) w) f n) ≡ nextAbstract (abstractOf st) (flowIs f) n (componentSet w)
-  pub valid : (w : Written) → Valid (partedState (withCurrent (metState st f) w) f n)
+  pub before : componentSet (metTop (topOf st) f .current) ≡ currentAt (flowIs f) (componentSet (st .current)) (keptIn st)
+  pub after : (w : Written) → abstractOf (stateAfter st f n w) ≡ nextAbstract (abstractOf st) (flowIs f) n (componentSet w)
+  pub valid : (w : Written) → Valid (stateAfter st f n w)
+
+abbrev stateOf : Written → ℕ → List Branch → State
+stateOf w d bs = record { current = w; depth = d; branches = bs }
 
 module _ (st : State) (n : ℕ) (v : Valid st) where
-  plain-follows : Follows st Plain n
-  plain-follows = record { before = refl; after = λ w. refl; valid = λ w. record { depth = v .depth; room = v .room } }
+  plain-is : (w : Written) → stateAfter st Plain n w ≡ stateOf w (st .depth) (st .branches)
+  plain-is w = ap (λ s. stateOf w (s .depth) (s .branches)) (own-top st)
 
-  opener-follows : isMisplaced st Opener ≡ false → Follows st Opener n
-  unfolding openedState
+  plain-follows : Follows st Plain n
+  plain-follows =
+      record {
+        before = refl;
+        after = λ w. ap abstractOf (plain-is w);
+        valid = λ w. subst⁻¹ Valid (plain-is w) (record { depth = v .depth; room = v .room });
+      }
+
+  opener-follows : isMisplaced (topOf st) Opener ≡ false → Follows st Opener n
+  unfolding opened
   opener-follows m =
       let h = leb-false 16 (st .depth) m in
       let r = v .room in
+      let b : Written → Branch = λ w. record { opener = n; «els_met» = false; kept = w } in
+      let at : slotAfter (st .depth) (st .depth + 1) ≡ st .depth = rw (lt-ltb (st .depth) (st .depth + 1) (omega arith)) (ap slotOf (add-one (st .depth)) ∙ slot-of (st .depth) h) in
+      let is : (w : Written) → stateAfter st Opener n w ≡ stateOf w (suc (st .depth)) (set (st .branches) (st .depth) (b w)) =
+      λ w. rw m (ap₂ (λ d i. stateOf w d (set (st .branches) i (b w))) (add-one (st .depth)) at) in
       record {
         before = refl;
         after = λ w.
-            rw (m, add-one)
-            (ap₂ (λ bs ks. record { openBranches = bs; current = componentSet w; kept = ks })
-            (over branchOf blankBranch (st .branches) (st .depth) (record { opener = n; «els_met» = false; kept = w }) (omega arith))
-            (over keptOf blankBranch (st .branches) (st .depth) (record { opener = n; «els_met» = false; kept = w }) (omega arith)));
-        valid = λ w. rw m (record { depth = omega arith; room = simp length-set r });
+            ap abstractOf (is w)
+            ∙ ap₂ (λ bs ks. record { openBranches = bs; current = componentSet w; kept = ks })
+            (over branchOf blankBranch (st .branches) (st .depth) (b w) (omega arith))
+            (over keptOf blankBranch (st .branches) (st .depth) (b w) (omega arith));
+        valid = λ w. subst⁻¹ Valid (is w) (record { depth = h; room = simp length-set r });
       }
 
   -- the innermost of d + 1 branches
@@ -92,13 +112,14 @@ module _ (st : State) (n : ℕ) (v : Valid st) where
     d<16 : d < 16
     d<16 = let h = v .depth in omega (arith, e)
 
-    exchanged-is : exchangedState st ≡ record { current = top .kept; depth = suc d; branches = set (st .branches) d (record { opener = top .opener; «els_met» = true; kept = st .current }) }
-    unfolding exchangedState top
-    exchanged-is = let m : st .depth - 1 ≡ d = omega (arith, e) in simp (le-ltb (st .depth) 1 (omega (arith, e)), le-ltb 16 (st .depth) (v .depth), m) (ap (λ k. record { current = top .kept; depth = k; branches = set (st .branches) d (record { opener = top .opener; «els_met» = true; kept = st .current }) }) e)
+    slot-is : slotOf (st .depth) ≡ d
+    slot-is = ap slotOf e ∙ slot-of d d<16
 
-    joined-is : joinedState st ≡ record { current = joinOf (st .current) (top .kept); depth = d; branches = st .branches }
-    unfolding joinedState top
-    joined-is = let m : st .depth - 1 ≡ d = omega (arith, e) in simp (le-ltb (st .depth) 1 (omega (arith, e)), le-ltb 16 (st .depth) (v .depth), m)
+    els-is : (w : Written) → stateAfter st Els n w ≡ stateOf w (suc d) (set (st .branches) d (record { opener = top .opener; «els_met» = true; kept = st .current }))
+    unfolding top
+    els-is w =
+        ap₂ (λ k i. stateOf w k (set (st .branches) i (record { opener = topOf st .branch .opener; «els_met» = true; kept = st .current }))) e (slot-stays (st .depth) ∙ slot-is)
+        ∙ ap (λ b. stateOf w (suc d) (set (st .branches) d (record { opener = b .opener; «els_met» = true; kept = st .current }))) (inside st v d e)
 
     els-follows : Follows st Els n
     unfolding top
@@ -106,31 +127,46 @@ module _ (st : State) (n : ℕ) (v : Valid st) where
         let b : Branch = record { opener = top .opener; «els_met» = true; kept = st .current } in
         let r = v .room in
         record {
-          before = rw (exchanged-is, e);
+          before = rw (inside st v d e, e);
           after = λ w.
-              rw (exchanged-is, e)
+              ap abstractOf (els-is w)
+              ∙ rw e
               (ap₂ (λ bs ks. record { openBranches = bs; current = componentSet w; kept = ks })
               (over branchOf blankBranch (st .branches) d b (omega (arith, d<16)))
               (over keptOf blankBranch (st .branches) d b (omega (arith, d<16))));
-          valid = λ w. rw exchanged-is (record { depth = d<16; room = simp length-set r });
+          valid = λ w. subst⁻¹ Valid (els-is w) (record { depth = d<16; room = simp length-set r });
         }
+
+    joined-is : joined (topOf st) ≡ record { current = joinOf (st .current) (top .kept); depth = d; branch = top }
+    unfolding joined top
+    joined-is =
+        let m : st .depth - 1 ≡ d = omega (arith, e) in
+        simp (le-ltb (st .depth) 1 (omega (arith, e)), m)
+        (ap (λ b. record { current = joinOf (st .current) (b .kept); depth = d; branch = b }) (inside st v d e))
+
+    eif-is : (w : Written) → stateAfter st Eif n w ≡ stateOf w d (st .branches)
+    unfolding top
+    eif-is w =
+        ap (λ t. withTop st (withCurrent t w)) joined-is
+        ∙ ap (λ i. stateOf w d (set (st .branches) i top)) (rw (le-ltb (st .depth) d (omega (arith, e))) slot-is)
+        ∙ ap (stateOf w d) (stored-own blankBranch (st .branches) d)
 
     eif-follows : Follows st Eif n
     unfolding top
     eif-follows =
         record {
           before = rw (joined-is, e) (fun-ext (in-join (st .current) (top .kept)));
-          after = λ w. rw (joined-is, e);
-          valid = λ w. let h = v .depth in rw joined-is (record { depth = omega (arith, d<16); room = v .room });
+          after = λ w. ap abstractOf (eif-is w) ∙ rw e;
+          valid = λ w. let h = v .depth in subst⁻¹ Valid (eif-is w) (record { depth = omega (arith, d<16); room = v .room });
         }
 
-  pub follows : (f : code.Flow) → isMisplaced st f ≡ false → Follows st f n
+  pub follows : (f : code.Flow) → isMisplaced (topOf st) f ≡ false → Follows st f n
   follows Plain m = plain-follows
   follows Opener m = opener-follows m
   follows Els m = go (st .depth) refl
     where
       go : (k : ℕ) → st .depth ≡ k → Follows st Els n
-      go zero e = absurd (true≢false (sym (ap (λ b. b || topOf st .«els_met») (outside st v e)) ∙ m))
+      go zero e = absurd (true≢false (sym (ap (λ b. b || topOf st .branch .«els_met») (outside st v e)) ∙ m))
       go (suc d) e = els-follows d e
   follows Eif m = go (st .depth) refl
     where

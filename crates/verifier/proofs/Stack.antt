@@ -7,6 +7,12 @@ use native.Mathlib.Omega.{arith}
 use lib.ListN.{length, getD, set}
 use lib.Seq.{getD-set-same, getD-set-other}
 
+-- a store of what stands there already changes nothing
+pub stored-own : {A : Type 0} (blank : A) (l : List A) (i : ℕ) → set l i (getD l i blank) ≡ l
+stored-own blank [] i = refl
+stored-own blank (x ∷ l) zero = refl
+stored-own blank (x ∷ l) (suc i) = ap (λ k. x ∷ k) (stored-own blank l i)
+
 module _ {A B : Type 0} (f : A → B) (blank : A) where
   -- the first d entries, the last of them first
   abbrev pub stackOf : List A → ℕ → List B

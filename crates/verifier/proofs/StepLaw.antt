@@ -38,19 +38,19 @@ use Rattle.verifier.specs.Rules.{destinationWrong}
 use Rattle.verifier.specs.Profile.{profileOf}
 use Rattle.verifier.specs.Order.{firstFault, tokenRules, recordOf, pathTokenAt}
 use Rattle.verifier.specs.Faults.{refusalAt, ownFault, undecodedFault}
-use Rattle.verifier.specs.State.{flowOfCode, isMisplaced, metState, partedState}
+use Rattle.verifier.specs.State.{flowOfCode, topOf, withTop, isMisplaced, metTop, partedTop}
 use Rattle.verifier.specs.Step.{stepped, lacksAccess, nextOf, followOf, takeOf, decidedOf, stepOf}
 use Rattle.verifier.specs.declared.state.Flow as code
 use Rattle.verifier.specs.declared.state.State.{State}
 use Rattle.verifier.specs.declared.step.Stepped.{Stepped}
-use Rattle.verifier.proofs.Abstract.{abstractOf, branchesIn, keptIn, flowIs, flow-is, misplaced-is, Valid}
+use Rattle.verifier.proofs.Abstract.{abstractOf, branchesIn, keptIn, flowIs, flow-is, misplaced-is, Valid, valid-own}
 use Rattle.verifier.proofs.NextState.{Kept, wrote-is, nextAbstract, follows}
 use Rattle.verifier.proofs.OwnFault.{token-numbered, refused-fault, taken-fault}
 
 -- what a step means for the answer: its fault, or what the tokens that are left make of the next state
-abbrev pub after : Stepped → ℕ → List PathToken → Answer
-after r n rest =
-    cond (eqb (r .fault .number) 0) (checkFrom (abstractOf (r .state)) (suc n) rest) (refused (r .fault .number) (r .fault .token) (r .fault .part))
+abbrev pub after : State → Stepped → ℕ → List PathToken → Answer
+after st r n rest =
+    cond (eqb (r .fault .number) 0) (checkFrom (abstractOf (withTop st (r .top))) (suc n) rest) (refused (r .fault .number) (r .fault .token) (r .fault .part))
 
 -- ---- a written temporary is kept
 
@@ -86,66 +86,66 @@ module _ (st : State) (v : Valid st) (n : ℕ) (t : Token) (rest : List PathToke
   abbrev f : code.Flow
   f = flowOfCode (t .opcode)
 
-  misplaced-at : misplaced (flowOf (t .opcode)) (branchesIn st) ≡ isMisplaced st f
+  misplaced-at : misplaced (flowOf (t .opcode)) (branchesIn st) ≡ isMisplaced (topOf st) f
   misplaced-at = ap (λ g. misplaced g (branchesIn st)) (sym (flow-is (t .opcode))) ∙ sym (misplaced-is st v f)
 
-  module _ (m : isMisplaced st f ≡ false) where
-    before-is : currentAt (flowOf (t .opcode)) (componentSet (st .current)) (keptIn st) ≡ componentSet (metState st f .current)
+  module _ (m : isMisplaced (topOf st) f ≡ false) where
+    before-is : currentAt (flowOf (t .opcode)) (componentSet (st .current)) (keptIn st) ≡ componentSet (metTop (topOf st) f .current)
     before-is = ap (λ g. currentAt g (componentSet (st .current)) (keptIn st)) (sym (flow-is (t .opcode))) ∙ sym (follows st n v f m .before)
 
-    lacks1 : lacks (setBefore pt (abstractOf st)) (temporaries (reads1 t)) ≡ lacksAccess (metState st f .current) (access1Of t)
-    lacks1 = ap (λ w. lacks w (temporaries (reads1 t))) before-is ∙ lacks-reads1 (metState st f .current) t
+    lacks1 : lacks (setBefore pt (abstractOf st)) (temporaries (reads1 t)) ≡ lacksAccess (metTop (topOf st) f .current) (access1Of t)
+    lacks1 = ap (λ w. lacks w (temporaries (reads1 t))) before-is ∙ lacks-reads1 (metTop (topOf st) f .current) t
 
-    lacks2 : lacks (setBefore pt (abstractOf st)) (temporaries (reads2 t)) ≡ lacksAccess (metState st f .current) (access2Of t)
-    lacks2 = ap (λ w. lacks w (temporaries (reads2 t))) before-is ∙ lacks-reads2 (metState st f .current) t
+    lacks2 : lacks (setBefore pt (abstractOf st)) (temporaries (reads2 t)) ≡ lacksAccess (metTop (topOf st) f .current) (access2Of t)
+    lacks2 = ap (λ w. lacks w (temporaries (reads2 t))) before-is ∙ lacks-reads2 (metTop (topOf st) f .current) t
 
-  next-is : isMisplaced st f ≡ false → Kept (t .destination) → (nextState (abstractOf st) n pt ≡ abstractOf (nextOf st n t)) × Valid (nextOf st n t)
+  next-is : isMisplaced (topOf st) f ≡ false → Kept (t .destination) → (nextState (abstractOf st) n pt ≡ abstractOf (withTop st (nextOf (topOf st) n t))) × Valid (withTop st (nextOf (topOf st) n t))
   next-is m k =
-      let (w, e, c) = wrote-is (metState st f) (t .destination) k in
+      let (w, e, c) = wrote-is (metTop (topOf st) f) (t .destination) k in
       let g = follows st n v f m in
       let o = flowOf (t .opcode) in
       let set : adds (currentAt o (componentSet (st .current)) (keptIn st)) (temporaries (writesInto (t .destination))) ≡ componentSet w = ap (λ b. adds b (temporaries (writesInto (t .destination)))) (before-is m) ∙ sym c in (
         ap (nextAbstract (abstractOf st) o n) set
             ∙ ap (λ x. nextAbstract (abstractOf st) x n (componentSet w)) (sym (flow-is (t .opcode)))
             ∙ sym (g .after w)
-            ∙ ap (λ x. abstractOf (partedState x f n)) (sym e),
-        subst (λ x. Valid (partedState x f n)) (sym e) (g .valid w),
+            ∙ ap (λ x. abstractOf (withTop st (partedTop x f n))) (sym e),
+        subst (λ x. Valid (withTop st (partedTop x f n))) (sym e) (g .valid w),
       )
 
   -- the tests by their values
-  decided : (m a b : Bool) (later : Answer) → (m ≡ false → later ≡ checkFrom (abstractOf (nextOf st n t)) (suc n) rest)
+  decided : (m a b : Bool) (later : Answer) → (m ≡ false → later ≡ checkFrom (abstractOf (withTop st (nextOf (topOf st) n t))) (suc n) rest)
       → judge none m a b n later
-      ≡ after (cond m (stepped (refusal 20 n 0) st) (cond a (stepped (refusal 21 n 2) st) (cond b (stepped (refusal 21 n 3) st) (stepped noRefusal (nextOf st n t))))) n rest
+      ≡ after st (cond m (stepped (refusal 20 n 0) (topOf st)) (cond a (stepped (refusal 21 n 2) (topOf st)) (cond b (stepped (refusal 21 n 3) (topOf st)) (stepped noRefusal (nextOf (topOf st) n t))))) n rest
   decided true a b later k = refl
   decided false true b later k = refl
   decided false false true later k = refl
   decided false false false later k = k refl
 
-  pub followed : Kept (t .destination) → checkFrom (abstractOf st) n (pt ∷ rest) ≡ after (followOf st n t) n rest
+  pub followed : Kept (t .destination) → checkFrom (abstractOf st) n (pt ∷ rest) ≡ after st (followOf (topOf st) n t) n rest
   unfolding checkFrom followOf
-  followed k = go (isMisplaced st f) refl
+  followed k = go (isMisplaced (topOf st) f) refl
     where
-      go : (m : Bool) → isMisplaced st f ≡ m
+      go : (m : Bool) → isMisplaced (topOf st) f ≡ m
           → judge none (misplaced (flowOf (t .opcode)) (branchesIn st)) (lacks (setBefore pt (abstractOf st)) (temporaries (reads1 t))) (lacks (setBefore pt (abstractOf st)) (temporaries (reads2 t))) n (checkFrom (nextState (abstractOf st) n pt) (suc n) rest)
-          ≡ after (cond (isMisplaced st f) (stepped (refusal 20 n 0) st) (cond (lacksAccess (metState st f .current) (access1Of t)) (stepped (refusal 21 n 2) st) (cond (lacksAccess (metState st f .current) (access2Of t)) (stepped (refusal 21 n 3) st) (stepped noRefusal (nextOf st n t))))) n rest
+          ≡ after st (cond (isMisplaced (topOf st) f) (stepped (refusal 20 n 0) (topOf st)) (cond (lacksAccess (metTop (topOf st) f .current) (access1Of t)) (stepped (refusal 21 n 2) (topOf st)) (cond (lacksAccess (metTop (topOf st) f .current) (access2Of t)) (stepped (refusal 21 n 3) (topOf st)) (stepped noRefusal (nextOf (topOf st) n t))))) n rest
       go true e = rw (misplaced-at ∙ e, e)
       go false e =
           let b = lacks (setBefore pt (abstractOf st)) (temporaries (reads2 t)) in
           let later = checkFrom (nextState (abstractOf st) n pt) (suc n) rest in
           ap (λ m. judge none m (lacks (setBefore pt (abstractOf st)) (temporaries (reads1 t))) b n later) misplaced-at
-          ∙ ap (λ l. judge none (isMisplaced st f) l b n later) (lacks1 e)
-          ∙ ap (λ l. judge none (isMisplaced st f) (lacksAccess (metState st f .current) (access1Of t)) l n later) (lacks2 e)
-          ∙ decided (isMisplaced st f) (lacksAccess (metState st f .current) (access1Of t)) (lacksAccess (metState st f .current) (access2Of t)) later (λ m. ap (λ x. checkFrom x (suc n) rest) (next-is m k .0))
+          ∙ ap (λ l. judge none (isMisplaced (topOf st) f) l b n later) (lacks1 e)
+          ∙ ap (λ l. judge none (isMisplaced (topOf st) f) (lacksAccess (metTop (topOf st) f .current) (access1Of t)) l n later) (lacks2 e)
+          ∙ decided (isMisplaced (topOf st) f) (lacksAccess (metTop (topOf st) f .current) (access1Of t)) (lacksAccess (metTop (topOf st) f .current) (access2Of t)) later (λ m. ap (λ x. checkFrom x (suc n) rest) (next-is m k .0))
 
   -- a step without a fault leaves a valid state
-  decided-valid : (m a b : Bool) → (m ≡ false → Valid (nextOf st n t))
-      → let r = cond m (stepped (refusal 20 n 0) st) (cond a (stepped (refusal 21 n 2) st) (cond b (stepped (refusal 21 n 3) st) (stepped noRefusal (nextOf st n t)))) in
-      Valid (r .state)
-  decided-valid true a b k = v
-  decided-valid false true b k = v
-  decided-valid false false true k = v
+  decided-valid : (m a b : Bool) → (m ≡ false → Valid (withTop st (nextOf (topOf st) n t)))
+      → let r = cond m (stepped (refusal 20 n 0) (topOf st)) (cond a (stepped (refusal 21 n 2) (topOf st)) (cond b (stepped (refusal 21 n 3) (topOf st)) (stepped noRefusal (nextOf (topOf st) n t)))) in
+      Valid (withTop st (r .top))
+  decided-valid true a b k = valid-own st v
+  decided-valid false true b k = valid-own st v
+  decided-valid false false true k = valid-own st v
   decided-valid false false false k = k refl
 
-  pub follow-valid : Kept (t .destination) → Valid (followOf st n t .state)
+  pub follow-valid : Kept (t .destination) → Valid (withTop st (followOf (topOf st) n t .top))
   unfolding followOf
-  follow-valid k = decided-valid (isMisplaced st f) (lacksAccess (metState st f .current) (access1Of t)) (lacksAccess (metState st f .current) (access2Of t)) (λ m. next-is m k .1)
+  follow-valid k = decided-valid (isMisplaced (topOf st) f) (lacksAccess (metTop (topOf st) f .current) (access1Of t)) (lacksAccess (metTop (topOf st) f .current) (access2Of t)) (λ m. next-is m k .1)

@@ -24,11 +24,12 @@ use Rattle.verifier.specs.Rules.{opcodeTooNew, opcodeNotForStage, destin
 use Rattle.verifier.specs.Profile.{profileOf}
 use Rattle.verifier.specs.Order.{Rule, firstFault, tokenRules, recordOf, pathTokenAt}
 use Rattle.verifier.specs.Faults.{refusalAt, ownFault, undecodedFault}
+use Rattle.verifier.specs.State.{topOf, withTop}
 use Rattle.verifier.specs.Step.{stepped, followOf, takeOf, decidedOf, stepOf}
 use Rattle.verifier.specs.declared.profile.Profile.{Profile}
 use Rattle.verifier.specs.declared.state.State.{State}
 use Rattle.verifier.specs.declared.step.Stepped.{Stepped}
-use Rattle.verifier.proofs.Abstract.{abstractOf, Valid}
+use Rattle.verifier.proofs.Abstract.{abstractOf, Valid, valid-own}
 use Rattle.verifier.proofs.NextState.{Kept}
 use Rattle.verifier.proofs.OwnFault.{token-numbered, refused-fault, taken-fault}
 use Rattle.verifier.proofs.StepLaw.{after, kept, followed, follow-valid}
@@ -74,7 +75,7 @@ module _ (edition stage n : ℕ) (s : List ℕ) (h : length s ≡ 24) (st : Stat
 
   -- a fault of the token is the answer
   at-fault : (f : TokenFault) → own ≡ some f → (u : Refusal) → refusalAt n own ≡ u
-      → (checkFrom (abstractOf st) n (pathTokenOf own (recordOf s) ∷ rest) ≡ after (stepped u st) n rest) × (u .number ≡ 0 → ⊥)
+      → (checkFrom (abstractOf st) n (pathTokenOf own (recordOf s) ∷ rest) ≡ after st (stepped u (topOf st)) n rest) × (u .number ≡ 0 → ⊥)
   unfolding checkFrom
   at-fault f e u q =
       let k = token-numbered (λ k. countOf k edition stage) edition stage s f e in
@@ -83,20 +84,20 @@ module _ (edition stage n : ℕ) (s : List ℕ) (h : length s ≡ 24) (st : Stat
 
   -- what is shown of a step
   Steps : Stepped → Type 0
-  Steps r = (checkFrom (abstractOf st) n (pathTokenOf own (recordOf s) ∷ rest) ≡ after r n rest) × Valid (r .state)
+  Steps r = (checkFrom (abstractOf st) n (pathTokenOf own (recordOf s) ∷ rest) ≡ after st r n rest) × Valid (withTop st (r .top))
 
-  when-refused : (r : Refusal) → decodeOf s ≡ Refused r → Steps (stepped (undecodedFault profile n r (getD s 0 0)) st)
+  when-refused : (r : Refusal) → decodeOf s ≡ Refused r → Steps (stepped (undecodedFault profile n r (getD s 0 0)) (topOf st))
   unfolding Steps
   when-refused r e = go own refl
     where
       q : refusalAt n own ≡ undecodedFault profile n r (getD s 0 0)
       q = refused-fault edition stage n s h r e
 
-      go : (o : Option TokenFault) → own ≡ o → (checkFrom (abstractOf st) n (pathTokenOf own (recordOf s) ∷ rest) ≡ after (stepped (undecodedFault profile n r (getD s 0 0)) st) n rest) × Valid st
+      go : (o : Option TokenFault) → own ≡ o → (checkFrom (abstractOf st) n (pathTokenOf own (recordOf s) ∷ rest) ≡ after st (stepped (undecodedFault profile n r (getD s 0 0)) (topOf st)) n rest) × Valid (withTop st (topOf st))
       go none k = absurd (undecoded-fault profile n r (getD s 0 0) (was-refused s r h e .1) (sym (ap (λ x. x .number) (sym (ap (refusalAt n) k) ∙ q))))
-      go (some f) k = (at-fault f k _ q .0, v)
+      go (some f) k = (at-fault f k _ q .0, valid-own st v)
 
-  when-taken : (t : Token) → decodeOf s ≡ Accepted t → Steps (takeOf st profile n t)
+  when-taken : (t : Token) → decodeOf s ≡ Accepted t → Steps (takeOf (topOf st) profile n t)
   unfolding Steps takeOf
   when-taken t e = go own refl
     where
@@ -107,7 +108,7 @@ module _ (edition stage n : ℕ) (s : List ℕ) (h : length s ≡ 24) (st : Stat
       q = taken-fault edition stage n s h t e .1
 
       go : (o : Option TokenFault) → own ≡ o
-          → (checkFrom (abstractOf st) n (pathTokenOf own (recordOf s) ∷ rest) ≡ after (cond (eqb (ownFault profile n t .number) 0) (followOf st n t) (stepped (ownFault profile n t) st)) n rest) × Valid ((cond (eqb (ownFault profile n t .number) 0) (followOf st n t) (stepped (ownFault profile n t) st)) .state)
+          → (checkFrom (abstractOf st) n (pathTokenOf own (recordOf s) ∷ rest) ≡ after st (cond (eqb (ownFault profile n t .number) 0) (followOf (topOf st) n t) (stepped (ownFault profile n t) (topOf st))) n rest) × Valid (withTop st ((cond (eqb (ownFault profile n t .number) 0) (followOf (topOf st) n t) (stepped (ownFault profile n t) (topOf st))) .top))
       go none k =
           let z : ownFault profile n t .number ≡ 0 = ap (λ x. x .number) (sym q ∙ ap (refusalAt n) k) in
           let d = subst (λ x. Kept (x .destination)) (sym p) (kept edition stage (recordOf s .destination) (destination-right (λ k. countOf k edition stage) edition stage s k)) in
@@ -119,12 +120,12 @@ module _ (edition stage n : ℕ) (s : List ℕ) (h : length s ≡ 24) (st : Stat
           )
       go (some f) k =
           let (a, z) = at-fault f k _ q in
-          rw (ne-eqb (ownFault profile n t .number) 0 z) (a, v)
+          rw (ne-eqb (ownFault profile n t .number) 0 z) (a, valid-own st v)
 
-  pub steps : (checkFrom (abstractOf st) n (pathTokenAt (λ k. countOf k edition stage) edition stage s ∷ rest) ≡ after (stepOf st profile n s) n rest) × Valid (stepOf st profile n s .state)
+  pub steps : (checkFrom (abstractOf st) n (pathTokenAt (λ k. countOf k edition stage) edition stage s ∷ rest) ≡ after st (stepOf (topOf st) profile n s) n rest) × Valid (withTop st (stepOf (topOf st) profile n s .top))
   unfolding Steps
   steps = go (decodeOf s) refl
     where
-      go : (d : Decoded) → decodeOf s ≡ d → Steps (decidedOf st profile n s d)
+      go : (d : Decoded) → decodeOf s ≡ d → Steps (decidedOf (topOf st) profile n s d)
       go (Accepted t) e = when-taken t e
       go (Refused r) e = when-refused r e

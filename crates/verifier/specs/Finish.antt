@@ -10,4 +10,4 @@ use Rattle.verifier.specs.declared.answers.Checked.{Checked}
 use Rattle.verifier.specs.declared.answers.Checked.the-variants.{Accepted, Refused}
 
 unfoldable pub finishOf : State → ℕ → ℕ → Checked
-finishOf st stage tokens = cond (eqb (st .depth) 0) (Accepted (program stage tokens)) (Refused (refusal 22 (topOf st .opener) 0))
+finishOf st stage tokens = cond (eqb (st .depth) 0) (Accepted (program stage tokens)) (Refused (refusal 22 (topOf st .branch .opener) 0))

@@ -1,6 +1,6 @@
 -- The state that the code keeps, and what a token makes of it. Nobody has to believe these: what the check answers is stated over rules and
 -- paths (Exact).
-use Prim.Native.Nat.{ℕ, _+_, _-_}
+use Prim.Native.Nat.{ℕ, _+_, _-_, _%_}
 use mathlib.Core.Bool.{Bool, true, false, not, cond, _||_, _&&_}
 use mathlib.Core.List.{List, [], _∷_}
 use lib.Dec.{eqb, ltb, leb}
@@ -14,6 +14,7 @@ use Rattle.verifier.specs.declared.state.Flow.{Flow}
 use Rattle.verifier.specs.declared.state.Flow.the-variants.{Plain, Opener, Els, Eif}
 use Rattle.verifier.specs.declared.state.Branch.{Branch}
 use Rattle.verifier.specs.declared.state.State.{State}
+use Rattle.verifier.specs.declared.state.Top.{Top}
 
 -- what an opcode does to branches
 unfoldable pub flowOfCode : ℕ → Flow
@@ -32,75 +33,83 @@ blankBranch = record { opener = 0; «els_met» = false; kept = noneWritten }
 abbrev pub startState : State
 startState = record { current = noneWritten; depth = 0; branches = replicate 16 blankBranch }
 
--- no branch is open, or more than there is room for, which no token makes
-abbrev pub isOutside : State → Bool
-isOutside st = ltb (st .depth) 1 || ltb 16 (st .depth)
+-- where the innermost of so many open branches stands in the array
+abbrev pub slotOf : ℕ → ℕ
+slotOf depth = (depth % 16 + 15) % 16
 
--- the innermost open branch
-unfoldable pub topOf : State → Branch
-topOf st = cond (ltb (st .depth) 1) blankBranch (cond (ltb 16 (st .depth)) blankBranch (getD (st .branches) (st .depth - 1) blankBranch))
+-- where a token puts its branch
+abbrev pub slotAfter : ℕ → ℕ → ℕ
+slotAfter before after = cond (ltb before after) (slotOf after) (slotOf before)
+
+-- what a token can touch of a state
+abbrev pub topOf : State → Top
+topOf st = record { current = st .current; depth = st .depth; branch = getD (st .branches) (slotOf (st .depth)) blankBranch }
+
+-- a state with what a token made of its top
+abbrev pub withTop : State → Top → State
+withTop st t =
+    record {
+      current = t .current;
+      depth = t .depth;
+      branches = set (st .branches) (slotAfter (st .depth) (t .depth)) (t .branch);
+    }
+
+-- no branch is open, or more than there is room for, which no token makes
+abbrev pub isOutside : Top → Bool
+isOutside t = ltb (t .depth) 1 || ltb 16 (t .depth)
 
 -- 20
-abbrev pub isMisplaced : State → Flow → Bool
-isMisplaced st Plain = false
-isMisplaced st Opener = leb 16 (st .depth)
-isMisplaced st Els = isOutside st || topOf st .«els_met»
-isMisplaced st Eif = isOutside st
+abbrev pub isMisplaced : Top → Flow → Bool
+isMisplaced t Plain = false
+isMisplaced t Opener = leb 16 (t .depth)
+isMisplaced t Els = isOutside t || t .branch .«els_met»
+isMisplaced t Eif = isOutside t
 
--- a state with another set at hand
-abbrev pub withCurrent : State → Written → State
-withCurrent st w = record { current = w; depth = st .depth; branches = st .branches }
+-- another set at hand
+abbrev pub withCurrent : Top → Written → Top
+withCurrent t w = record { current = w; depth = t .depth; branch = t .branch }
 
 -- els exchanges the set at hand with the kept one
-unfoldable pub exchangedState : State → State
-exchangedState st =
-    cond (ltb (st .depth) 1) st
-    (cond (ltb 16 (st .depth)) st
-    (record {
-      current = getD (st .branches) (st .depth - 1) blankBranch .kept;
-      depth = st .depth;
-      branches =
-          set (st .branches) (st .depth - 1)
-          (record { opener = getD (st .branches) (st .depth - 1) blankBranch .opener; «els_met» = true; kept = st .current });
-    }))
+abbrev pub exchanged : Top → Top
+exchanged t =
+    record {
+      current = t .branch .kept;
+      depth = t .depth;
+      branch = record { opener = t .branch .opener; «els_met» = true; kept = t .current };
+    }
 
 -- eif joins the two and closes the branch
-unfoldable pub joinedState : State → State
-joinedState st =
-    cond (ltb (st .depth) 1) st
-    (cond (ltb 16 (st .depth)) st
-    (record {
-      current = joinOf (st .current) (getD (st .branches) (st .depth - 1) blankBranch .kept);
-      depth = st .depth - 1;
-      branches = st .branches;
-    }))
+unfoldable pub joined : Top → Top
+joined t =
+    cond (ltb (t .depth) 1) t
+    (record { current = joinOf (t .current) (t .branch .kept); depth = t .depth - 1; branch = t .branch })
 
-abbrev pub metState : State → Flow → State
-metState st Plain = st
-metState st Opener = st
-metState st Els = exchangedState st
-metState st Eif = joinedState st
+abbrev pub metTop : Top → Flow → Top
+metTop t Plain = t
+metTop t Opener = t
+metTop t Els = exchanged t
+metTop t Eif = joined t
 
 -- an opener keeps the set at hand for the other side
-unfoldable pub openedState : State → ℕ → State
-openedState st n =
-    cond (leb 16 (st .depth)) st
+unfoldable pub opened : Top → ℕ → Top
+opened t n =
+    cond (leb 16 (t .depth)) t
     (record {
-      current = st .current;
-      depth = st .depth + 1;
-      branches = set (st .branches) (st .depth) (record { opener = n; «els_met» = false; kept = st .current });
+      current = t .current;
+      depth = t .depth + 1;
+      branch = record { opener = n; «els_met» = false; kept = t .current };
     })
 
-abbrev pub partedState : State → Flow → ℕ → State
-partedState st Plain n = st
-partedState st Opener n = openedState st n
-partedState st Els n = st
-partedState st Eif n = st
+abbrev pub partedTop : Top → Flow → ℕ → Top
+partedTop t Plain n = t
+partedTop t Opener n = opened t n
+partedTop t Els n = t
+partedTop t Eif n = t
 
 -- a temporary that is written
-abbrev pub markedState : State → MaskedRegister → State
-markedState st r = cond (eqb (r .kind) 2) (withCurrent st (markOf (st .current) (r .number) (r .mask))) st
+abbrev pub marked : Top → MaskedRegister → Top
+marked t r = cond (eqb (r .kind) 2) (withCurrent t (markOf (t .current) (r .number) (r .mask))) t
 
-abbrev pub wroteState : State → Destination → State
-wroteState st NoDestination = st
-wroteState st (Masked r) = markedState st r
+abbrev pub wroteTop : Top → Destination → Top
+wroteTop t NoDestination = t
+wroteTop t (Masked r) = marked t r

@@ -1,4 +1,4 @@
--- One token of the check, on the state that the code keeps.
+-- One token of the check, on what it can touch of the state that the code keeps.
 use Prim.Native.Nat.{ℕ}
 use mathlib.Core.Bool.{Bool, true, false, not, cond, _&&_}
 use mathlib.Core.List.{List}
@@ -14,36 +14,36 @@ use Rattle.paths.specs.Written.{lacksOf}
 use Rattle.paths.specs.declared.access.Access.{Access}
 use Rattle.paths.specs.declared.written.Written.{Written}
 use Rattle.verifier.specs.Faults.{ownFault, undecodedFault}
-use Rattle.verifier.specs.State.{flowOfCode, isMisplaced, metState, wroteState, partedState}
+use Rattle.verifier.specs.State.{flowOfCode, isMisplaced, metTop, wroteTop, partedTop}
 use Rattle.verifier.specs.declared.profile.Profile.{Profile}
-use Rattle.verifier.specs.declared.state.State.{State}
+use Rattle.verifier.specs.declared.state.Top.{Top}
 use Rattle.verifier.specs.declared.step.Stepped.{Stepped}
 
-abbrev pub stepped : Refusal → State → Stepped
-stepped f st = record { fault = f; state = st }
+abbrev pub stepped : Refusal → Top → Stepped
+stepped f st = record { fault = f; top = st }
 
 abbrev pub lacksAccess : Written → Access → Bool
 lacksAccess w a = eqb (a .kind) 2 && lacksOf w (a .register) (a .rows) (a .components)
 
--- the state after a token without a fault
-abbrev pub nextOf : State → ℕ → Token → State
-nextOf st token t = partedState (wroteState (metState st (flowOfCode (t .opcode))) (t .destination)) (flowOfCode (t .opcode)) token
+-- the top after a token without a fault
+abbrev pub nextOf : Top → ℕ → Token → Top
+nextOf st token t = partedTop (wroteTop (metTop st (flowOfCode (t .opcode))) (t .destination)) (flowOfCode (t .opcode)) token
 
--- 20, 21 through source 1, 21 through source 2, else the next state
-unfoldable pub followOf : State → ℕ → Token → Stepped
+-- 20, 21 through source 1, 21 through source 2, else the next
+unfoldable pub followOf : Top → ℕ → Token → Stepped
 followOf st token t =
     cond (isMisplaced st (flowOfCode (t .opcode))) (stepped (refusal 20 token 0) st)
-    (cond (lacksAccess (metState st (flowOfCode (t .opcode)) .current) (access1Of t)) (stepped (refusal 21 token 2) st)
-    (cond (lacksAccess (metState st (flowOfCode (t .opcode)) .current) (access2Of t)) (stepped (refusal 21 token 3) st)
+    (cond (lacksAccess (metTop st (flowOfCode (t .opcode)) .current) (access1Of t)) (stepped (refusal 21 token 2) st)
+    (cond (lacksAccess (metTop st (flowOfCode (t .opcode)) .current) (access2Of t)) (stepped (refusal 21 token 3) st)
     (stepped noRefusal (nextOf st token t))))
 
-unfoldable pub takeOf : State → Profile → ℕ → Token → Stepped
+unfoldable pub takeOf : Top → Profile → ℕ → Token → Stepped
 takeOf st profile token t =
     cond (eqb (ownFault profile token t .number) 0) (followOf st token t) (stepped (ownFault profile token t) st)
 
-abbrev pub decidedOf : State → Profile → ℕ → List ℕ → Decoded → Stepped
+abbrev pub decidedOf : Top → Profile → ℕ → List ℕ → Decoded → Stepped
 decidedOf st profile token bytes (Accepted t) = takeOf st profile token t
 decidedOf st profile token bytes (Refused r) = stepped (undecodedFault profile token r (getD bytes 0 0)) st
 
-abbrev pub stepOf : State → Profile → ℕ → List ℕ → Stepped
+abbrev pub stepOf : Top → Profile → ℕ → List ℕ → Stepped
 stepOf st profile token bytes = decidedOf st profile token bytes (decodeOf bytes)

@@ -12,7 +12,9 @@ use crate::answers::Program;
 use crate::faults;
 use crate::header;
 use crate::profile;
+use crate::state;
 use crate::state::State;
+use crate::state::Top;
 
 // Judges a program under an edition, in one pass over its tokens.
 pub fn check(edition: u32, bytes: &[u8]) -> Checked
@@ -38,13 +40,25 @@ fn check_tokens(edition: u32, bytes: &[u8]) -> Checked
     while token < count {
         let at = 7 + token * 24;
         let end = at + 24;
-        let stepped = state.step(profile, token, &bytes[at..end]);
+        let current = state.current;
+        let depth = state.depth;
+        let innermost = state.branches[state::slot(depth)];
+        let top = Top {
+            current,
+            depth,
+            branch: innermost,
+        };
+        let stepped = top.step(profile, token, &bytes[at..end]);
         let fault = stepped.fault;
         if fault.number != 0 {
             return Checked::Refused(fault);
         }
-        let next = stepped.state;
-        state = next;
+        let next = stepped.top;
+        let branch = next.branch;
+        let current = next.current;
+        state.branches[state::slot_after(depth, next.depth)] = branch;
+        state.current = current;
+        state.depth = next.depth;
         token += 1;
     }
     finish(state, stage, count)
@@ -55,7 +69,7 @@ fn finish(state: State, stage: u8, tokens: usize) -> Checked
     ensures { λ r. ⌜ r ≡ finishOf state stage tokens ⌝ }
 {
     let depth = state.depth;
-    let branch = state.top();
+    let branch = state.branches[state::slot(depth)];
     if depth == 0 {
         return Checked::Accepted(Program { stage, tokens });
     }

@@ -1,7 +1,8 @@
 // The state of the check between two tokens: what is written on every path to here, and for each open branch what is written on the other
-// way through it. A state goes in by value and the next one comes back.
+// way through it. What a token can touch of it goes in by value, and the next comes back.
 ghost use mathlib.Core.Path.{_≡_};
-ghost use Rattle.verifier.specs.State.{flowOfCode, startState, blankBranch, topOf, isMisplaced, exchangedState, joinedState, metState, openedState, partedState, markedState, wroteState};
+ghost use Prim.Native.Nat.{_<_};
+ghost use Rattle.verifier.specs.State.{flowOfCode, startState, slotOf, slotAfter, isMisplaced, exchanged as exchangedTop, joined as joinedTop, metTop, opened as openedTop, partedTop, marked as markedTop, wroteTop};
 use bytecode::record::Destination;
 use bytecode::record::MaskedRegister;
 use paths::written;
@@ -27,6 +28,13 @@ pub struct State {
     pub current: Written,
     pub depth: usize,
     pub branches: [Branch; 16],
+}
+
+// What a token can touch: the set at hand, how many branches are open, and the innermost of them.
+pub struct Top {
+    pub current: Written,
+    pub depth: usize,
+    pub branch: Branch,
 }
 
 pub(crate) fn flow_of(opcode: u32) -> Flow
@@ -69,27 +77,33 @@ impl State {
             branches: [blank; 16],
         }
     }
+}
 
-    // The innermost open branch. A state that has none, or more than there is room for, answers a blank one.
-    pub(crate) fn top(self) -> Branch
-        ensures { λ r. ⌜ r ≡ topOf self ⌝ }
-    {
-        let depth = self.depth;
-        if depth < 1 {
-            return blank();
-        }
-        if 16 < depth {
-            return blank();
-        }
-        self.branches[depth - 1]
+// Where the innermost of so many open branches stands in the array. Every number has a place, and the state that has no open branch keeps
+// what stands there.
+pub(crate) fn slot(depth: usize) -> usize
+    ensures { λ r. ⌜ (r ≡ slotOf depth) × (r < 16) ⌝ }
+{
+    (depth % 16 + 15) % 16
+}
+
+// Where a token puts its branch, by the depth before and after it: an opener's is a new one.
+pub(crate) fn slot_after(before: usize, after: usize) -> usize
+    ensures { λ r. ⌜ (r ≡ slotAfter before after) × (r < 16) ⌝ }
+{
+    if before < after {
+        return slot(after);
     }
+    slot(before)
+}
 
+impl Top {
     // Fault 20.
     pub(crate) fn is_misplaced(self, flow: Flow) -> bool
         ensures { λ r. ⌜ r ≡ isMisplaced self flow ⌝ }
     {
         let depth = self.depth;
-        let branch = self.top();
+        let branch = self.branch;
         let none = (depth < 1) | (16 < depth);
         match flow {
             Flow::Plain => false,
@@ -100,8 +114,8 @@ impl State {
     }
 
     // As a token is met: els takes up the set from before the branch, eif joins the sets of both blocks and closes the branch.
-    pub(crate) fn met(self, flow: Flow) -> State
-        ensures { λ r. ⌜ r ≡ metState self flow ⌝ }
+    pub(crate) fn met(self, flow: Flow) -> Top
+        ensures { λ r. ⌜ r ≡ metTop self flow ⌝ }
     {
         match flow {
             Flow::Plain => self,
@@ -111,52 +125,44 @@ impl State {
         }
     }
 
-    fn exchanged(self) -> State
-        ensures { λ r. ⌜ r ≡ exchangedState self ⌝ }
+    fn exchanged(self) -> Top
+        ensures { λ r. ⌜ r ≡ exchangedTop self ⌝ }
     {
-        let depth = self.depth;
-        if depth < 1 {
-            return self;
-        }
-        if 16 < depth {
-            return self;
-        }
-        let branch = self.branches[depth - 1];
+        let branch = self.branch;
         let current = self.current;
         let kept = branch.kept;
-        let mut next = self;
-        next.branches[depth - 1] = Branch {
-            opener: branch.opener,
-            els_met: true,
-            kept: current,
-        };
-        next.current = kept;
-        next
+        Top {
+            current: kept,
+            depth: self.depth,
+            branch: Branch {
+                opener: branch.opener,
+                els_met: true,
+                kept: current,
+            },
+        }
     }
 
-    fn joined(self) -> State
-        ensures { λ r. ⌜ r ≡ joinedState self ⌝ }
+    fn joined(self) -> Top
+        ensures { λ r. ⌜ r ≡ joinedTop self ⌝ }
     {
         let depth = self.depth;
         if depth < 1 {
             return self;
         }
-        if 16 < depth {
-            return self;
-        }
-        let branch = self.branches[depth - 1];
+        let branch = self.branch;
         let current = self.current;
         let kept = branch.kept;
         let both = written::join(current, kept);
-        let mut next = self;
-        next.current = both;
-        next.depth = depth - 1;
-        next
+        Top {
+            current: both,
+            depth: depth - 1,
+            branch,
+        }
     }
 
     // After a token: an opener keeps the set at hand for the other side.
-    pub(crate) fn parted(self, flow: Flow, token: usize) -> State
-        ensures { λ r. ⌜ r ≡ partedState self flow token ⌝ }
+    pub(crate) fn parted(self, flow: Flow, token: usize) -> Top
+        ensures { λ r. ⌜ r ≡ partedTop self flow token ⌝ }
     {
         match flow {
             Flow::Plain => self,
@@ -166,27 +172,28 @@ impl State {
         }
     }
 
-    fn opened(self, token: usize) -> State
-        ensures { λ r. ⌜ r ≡ openedState self token ⌝ }
+    fn opened(self, token: usize) -> Top
+        ensures { λ r. ⌜ r ≡ openedTop self token ⌝ }
     {
         let depth = self.depth;
         if 16 <= depth {
             return self;
         }
         let current = self.current;
-        let mut next = self;
-        next.branches[depth] = Branch {
-            opener: token,
-            els_met: false,
-            kept: current,
-        };
-        next.depth = depth + 1;
-        next
+        Top {
+            current,
+            depth: depth + 1,
+            branch: Branch {
+                opener: token,
+                els_met: false,
+                kept: current,
+            },
+        }
     }
 
     // With the components that a token writes, where its destination is a temporary register.
-    pub(crate) fn wrote(self, destination: Destination) -> State
-        ensures { λ r. ⌜ r ≡ wroteState self destination ⌝ }
+    pub(crate) fn wrote(self, destination: Destination) -> Top
+        ensures { λ r. ⌜ r ≡ wroteTop self destination ⌝ }
     {
         match destination {
             Destination::Unused => self,
@@ -194,8 +201,8 @@ impl State {
         }
     }
 
-    fn marked(self, register: MaskedRegister) -> State
-        ensures { λ r. ⌜ r ≡ markedState self register ⌝ }
+    fn marked(self, register: MaskedRegister) -> Top
+        ensures { λ r. ⌜ r ≡ markedTop self register ⌝ }
     {
         if register.kind != 2 {
             return self;
@@ -205,20 +212,5 @@ impl State {
         let mut next = self;
         next.current = more;
         next
-    }
-}
-
-fn blank() -> Branch
-    ensures { λ r. ⌜ r ≡ blankBranch ⌝ }
-{
-    Branch {
-        opener: 0,
-        els_met: false,
-        kept: Written {
-            x: 0,
-            y: 0,
-            z: 0,
-            w: 0,
-        },
     }
 }

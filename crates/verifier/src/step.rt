@@ -5,7 +5,7 @@ ghost use Rattle.verifier.specs.Step.{stepOf, takeOf, followOf, lacksAcc
 use crate::faults;
 use crate::profile::Profile;
 use crate::state;
-use crate::state::State;
+use crate::state::Top;
 use bytecode::answers::Decoded;
 use bytecode::answers::Refusal;
 use bytecode::record::Token;
@@ -14,13 +14,13 @@ use paths::access::Access;
 use paths::written;
 use paths::written::Written;
 
-// A fault with number 0 is none, and only then is the state the next one.
+// A fault with number 0 is none, and only then is the top the next one.
 pub struct Stepped {
     pub fault: Refusal,
-    pub state: State,
+    pub top: Top,
 }
 
-impl State {
+impl Top {
     // Judges the bytes of one token, whose number is `token`.
     pub(crate) fn step(self, profile: Profile, token: usize, bytes: &[u8]) -> Stepped
         ensures { λ r. ⌜ r ≡ stepOf self profile token (now (bytes .entry)) ⌝ }
@@ -29,7 +29,7 @@ impl State {
             Decoded::Token(t) => self.take(profile, token, t),
             Decoded::Refused(r) => {
                 let fault = faults::undecoded_fault(profile, token, r, first_byte(bytes));
-                Stepped { fault, state: self }
+                Stepped { fault, top: self }
             }
         }
     }
@@ -40,7 +40,7 @@ impl State {
     {
         let fault = faults::own_fault(profile, token, t);
         if fault.number != 0 {
-            return Stepped { fault, state: self };
+            return Stepped { fault, top: self };
         }
         self.follow(token, t)
     }
@@ -52,22 +52,22 @@ impl State {
         let flow = state::flow_of(t.opcode);
         if self.is_misplaced(flow) {
             let fault = faults::refusal(20, token, 0);
-            return Stepped { fault, state: self };
+            return Stepped { fault, top: self };
         }
         let met = self.met(flow);
         let current = met.current;
         if lacks_access(current, access::access1(t)) {
             let fault = faults::refusal(21, token, 2);
-            return Stepped { fault, state: self };
+            return Stepped { fault, top: self };
         }
         if lacks_access(current, access::access2(t)) {
             let fault = faults::refusal(21, token, 3);
-            return Stepped { fault, state: self };
+            return Stepped { fault, top: self };
         }
         let destination = t.destination;
         let fault = faults::refusal(0, 0, 0);
         let next = met.wrote(destination).parted(flow, token);
-        Stepped { fault, state: next }
+        Stepped { fault, top: next }
     }
 }
 

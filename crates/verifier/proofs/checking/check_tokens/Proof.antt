@@ -1,14 +1,18 @@
 -- `check_tokens` meets its contract.
 -- Assumes nothing.
-use Prim.Native.Nat.{_-_, _≤_}
+use Prim.Native.Nat.{ℕ, _+_, _-_, _^_, _≤_, _<_}
 use mathlib.Core.Path.{_≡_, _∙_, sym, ap, subst⁻¹}
 use native.Mathlib.Omega.{arith}
 use borrow.Author.Needs.{needs}
+use lib.ListN.{getD, set}
 use denote.Ref.{now}
 use Rattle.paths.specs.Check.{verdictOf}
 use Rattle.verifier.specs.Rules.{tokenCount}
 use Rattle.verifier.specs.Order.{tokensOf}
+use Rattle.verifier.specs.State.{blankBranch}
 use Rattle.verifier.specs.Verdict.{answerOf}
+use Rattle.verifier.specs.declared.state.State.{State}
+use Rattle.verifier.specs.declared.state.Top.{Top}
 use Rattle.verifier.proofs.Abstract.{Valid, valid-start}
 use Rattle.verifier.proofs.LoopLaw.{answerFrom, left, begins, turn-valid, goes-on, stops, ends}
 use Rattle.verifier.proofs.checking.check_tokens.Statement.{statement}
@@ -53,6 +57,15 @@ add-at c = search needs
 add-end : tie.Need-add-end Inv-loop μ-loop
 add-end c = search needs
 
+slot-requires : tie.Need-slot-requires Inv-loop μ-loop
+slot-requires c κs = search needs
+
+mul-innermost : tie.Need-mul-innermost Inv-loop μ-loop
+mul-innermost c = search needs
+
+element-copy-out-innermost : tie.Need-element-copy-out-innermost Inv-loop μ-loop
+element-copy-out-innermost c = search needs
+
 sub-step : tie.Need-sub-step Inv-loop μ-loop
 sub-step c = search needs
 
@@ -65,10 +78,18 @@ part-step-end c = search needs
 step-requires : tie.Need-step-requires Inv-loop μ-loop
 step-requires c κs = search needs
 
+-- the top that the code takes
+abbrev topAt : State → ℕ → Top
+topAt st slot = record { current = st .current; depth = st .depth; branch = getD (st .branches) slot blankBranch }
+
+-- the state that it goes on with
+abbrev stateAt : State → Top → ℕ → State
+stateAt st top slot = record { current = top .current; depth = top .depth; branches = set (st .branches) slot (top .branch) }
+
 returns : tie.Need-returns Inv-loop μ-loop
 returns c =
-    let at-start = c .before .before .before .before .before .before .before .before .before .before .before in
-    let entry = c .before .before .before .before .before .before .loop in
+    let at-start = c .before .before .before .before .before .before .before .before .before .before .before .before .before .before in
+    let entry = c .before .before .before .before .before .before .before .before .before .loop in
     sym
     (stops
     (at-start .args .edition)
@@ -77,46 +98,52 @@ returns c =
     (entry .state)
     (entry .inv .1)
     (entry .token)
-    (c .before .before .before .before .before .loop-test .taken)
+    (c .before .before .before .before .before .before .before .before .loop-test .taken)
     _
-    (c .before .before .before .before .before .before .before .before .profile-of .ensures)
+    (c .before .before .before .before .before .before .before .before .before .before .before .profile-of .ensures)
+    _
+    (ap (topAt (entry .state)) (c .before .before .before .before .before .before .slot .ensures .0))
     _
     (c .before .before .before .step .ensures)
     (c .if1 .taken))
     ∙ entry .inv .2
 
+slot-after-requires : tie.Need-slot-after-requires Inv-loop μ-loop
+slot-after-requires c κs = search needs
+
+mul-branch : tie.Need-mul-branch Inv-loop μ-loop
+mul-branch c = search needs
+
+element-set-from-branch : tie.Need-element-set-from-branch Inv-loop μ-loop
+element-set-from-branch c = search needs
+
 add-token : tie.Need-add-token Inv-loop μ-loop
-add-token c = search needs
+add-token c =
+    let entry = c .before .before .before .before .before .before .before .before .before .before .before .before .before .loop in
+    let h : entry .token + 1 < 2 ^ 64 = search (needs, c .before .before .before .before .before .before .before .before .before .before .before .before .loop-test .taken, c .before .before .before .before .before .before .before .before .before .before .before .before .before .before .before .before .before .before .good) in
+    record { fits = h }
 
 loop-less : tie.Need-loop-less Inv-loop μ-loop
 loop-less c = search needs
 
 loop-again : tie.Need-loop-again Inv-loop μ-loop
 loop-again c =
-    let at-start = c .before .before .before .before .before .before .before .before .before .before .before .before in
+    let at-start = c .before .before .before .before .before .before .before .before .before .before .before .before .before .before .before .before .before .before in
     let edition = at-start .args .edition in
     let bytes = now (at-start .args .bytes) in
-    let entry = c .before .before .before .before .before .before .before .loop in
-    let profile = c .before .before .before .before .before .before .before .before .before .profile-of in
-    let step = c .before .before .before .before .step in
-    let inside = c .before .before .before .before .before .before .loop-test .taken in (
+    let entry = c .before .before .before .before .before .before .before .before .before .before .before .before .before .loop in
+    let inside = c .before .before .before .before .before .before .before .before .before .before .before .before .loop-test .taken in
+    let profile = c .before .before .before .before .before .before .before .before .before .before .before .before .before .before .before .profile-of in
+    let top = ap (topAt (entry .state)) (c .before .before .before .before .before .before .before .before .before .before .slot .ensures .0) in
+    let step = c .before .before .before .before .before .before .before .step in
+    let next : State = stateAt (entry .state) (step .result .top) (c .slot-after .result) in
+    let put = ap (stateAt (entry .state) (step .result .top)) (c .slot-after .ensures .0) in (
       omega arith,
-      turn-valid edition bytes (at-start .pre) (entry .state) (entry .inv .1) (entry .token) inside _ (profile .ensures) _ (step .ensures),
+      turn-valid edition bytes (at-start .pre) (entry .state) (entry .inv .1) (entry .token) inside _ (profile .ensures) _ top _ (step .ensures) next put,
       ap (answerOf bytes)
           (sym
-          (goes-on
-          edition
-          bytes
-          (at-start .pre)
-          (entry .state)
-          (entry .inv .1)
-          (entry .token)
-          inside
-          _
-          (profile .ensures)
-          _
-          (step .ensures)
-          (c .before .if1 .left)))
+          (goes-on edition bytes (at-start .pre) (entry .state) (entry .inv .1) (entry .token) inside _ (profile .ensures) _ top _ (step .ensures) next put
+          (c .before .before .before .before .if1 .left)))
           ∙ entry .inv .2,
     )
 
@@ -149,11 +176,17 @@ check-tokens-spec =
     mul-at
     add-at
     add-end
+    slot-requires
+    mul-innermost
+    element-copy-out-innermost
     sub-step
     part-step-start
     part-step-end
     step-requires
     returns
+    slot-after-requires
+    mul-branch
+    element-set-from-branch
     add-token
     loop-less
     loop-again

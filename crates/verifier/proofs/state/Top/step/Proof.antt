@@ -5,8 +5,8 @@ use denote.Ref.{now}
 use Rattle.verifier.specs.Step.{stepped, decidedOf}
 use Rattle.verifier.specs.Faults.{undecodedFault}
 use borrow.Author.Needs.{needs}
-use Rattle.verifier.proofs.state.State.step.Statement.{statement}
-use Rattle.verifier.proofs.state.State.step.Tie as tie
+use Rattle.verifier.proofs.state.Top.step.Statement.{statement}
+use Rattle.verifier.proofs.state.Top.step.Tie as tie
 
 decode-requires : tie.Need-decode-requires
 decode-requires c κs = search needs

@@ -1,8 +1,8 @@
 -- `met` meets its contract.
 -- Assumes nothing.
 use borrow.Author.Needs.{needs}
-use Rattle.verifier.proofs.state.State.met.Statement.{statement}
-use Rattle.verifier.proofs.state.State.met.Tie as tie
+use Rattle.verifier.proofs.state.Top.met.Statement.{statement}
+use Rattle.verifier.proofs.state.Top.met.Tie as tie
 
 enum-told : tie.Need-enum-told
 enum-told c = search needs

@@ -1,8 +1,8 @@
 -- `wrote` meets its contract.
 -- Assumes nothing.
 use borrow.Author.Needs.{needs}
-use Rattle.verifier.proofs.state.State.wrote.Statement.{statement}
-use Rattle.verifier.proofs.state.State.wrote.Tie as tie
+use Rattle.verifier.proofs.state.Top.wrote.Statement.{statement}
+use Rattle.verifier.proofs.state.Top.wrote.Tie as tie
 
 enum-told : tie.Need-enum-told
 enum-told c = search needs

@@ -3,8 +3,8 @@
 use borrow.Author.Tests.{eq-eqb, ne-eqb}
 use Rattle.verifier.specs.Step.{takeOf}
 use borrow.Author.Needs.{needs}
-use Rattle.verifier.proofs.state.State.take.Statement.{statement}
-use Rattle.verifier.proofs.state.State.take.Tie as tie
+use Rattle.verifier.proofs.state.Top.take.Statement.{statement}
+use Rattle.verifier.proofs.state.Top.take.Tie as tie
 
 own-fault-requires : tie.Need-own-fault-requires
 own-fault-requires c κs = search needs

@@ -1,8 +1,8 @@
 -- `parted` meets its contract.
 -- Assumes nothing.
 use borrow.Author.Needs.{needs}
-use Rattle.verifier.proofs.state.State.parted.Statement.{statement}
-use Rattle.verifier.proofs.state.State.parted.Tie as tie
+use Rattle.verifier.proofs.state.Top.parted.Statement.{statement}
+use Rattle.verifier.proofs.state.Top.parted.Tie as tie
 
 enum-told : tie.Need-enum-told
 enum-told c = search needs

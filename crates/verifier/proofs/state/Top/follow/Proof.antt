@@ -2,8 +2,8 @@
 -- Assumes nothing.
 use Rattle.verifier.specs.Step.{followOf}
 use borrow.Author.Needs.{needs}
-use Rattle.verifier.proofs.state.State.follow.Statement.{statement}
-use Rattle.verifier.proofs.state.State.follow.Tie as tie
+use Rattle.verifier.proofs.state.Top.follow.Statement.{statement}
+use Rattle.verifier.proofs.state.Top.follow.Tie as tie
 
 flow-of-requires : tie.Need-flow-of-requires
 flow-of-requires c κs = search needs
