@@ -1,7 +1,7 @@
 -- What decode's answer is, from its fault.
 -- Assumes nothing.
 use Prim.Native.Nat.{ℕ}
-use mathlib.Core.Bool.{Bool, true, false, not, cond, _&&_}
+use mathlib.Core.Bool.{Bool, true, false, not, cond, _&&_, _||_, false≢true}
 use mathlib.Core.List.{List}
 use mathlib.Core.Path.{_≡_, refl, _∙_, sym, ap}
 use native.Mathlib.Omega.{arith}
@@ -12,10 +12,11 @@ use Rattle.bytecode.specs.Opcodes.{shapeOf}
 use Rattle.bytecode.specs.Fields.{fieldsOf}
 use Rattle.bytecode.specs.Layout.{destinationBits, operandBits, isStray}
 use Rattle.bytecode.specs.Records.{tokenOf}
-use Rattle.bytecode.specs.Decode.{refusal, noRefusal, lowestPart, unusedPart, undefinedPart, tokenFault, decodeFault, decodeOf, Decodes}
+use Rattle.bytecode.specs.Decode.{refusal, noRefusal, lowestPart, unusedPart, undefinedPart, isClean, tokenFault, decodeFault, notExamined, examinedFields, examinedOf, decodeOf, Decodes}
 use Rattle.bytecode.specs.declared.opcodes.Shape.{Shape}
 use Rattle.bytecode.specs.declared.fields.Fields.{Fields}
 use Rattle.bytecode.specs.declared.record.Token.{Token}
+use Rattle.bytecode.specs.declared.answers.Examined.{Examined}
 use Rattle.bytecode.specs.declared.answers.Refusal.{Refusal}
 use Rattle.bytecode.specs.declared.answers.Decoded.the-variants.{Token as Accepted, Refused}
 
@@ -36,27 +37,45 @@ no-fault s f e =
     no-chain (not (s .listed)) (not (eqb (unusedPart s f) 0)) (not (eqb (undefinedPart s f) 0)) (unusedPart s f) (undefinedPart s f) e
 
 module _ (s : List ℕ) where
-  refused : (r : Refusal) → decodeFault s ≡ r → (r .number ≡ 0 → ⊥) → Decodes s (Refused r)
-  unfolding decodeOf
-  refused r e n = record { answer = sym (rw (e, ne-eqb (r .number) 0 n)); numbers = sym e }
+  -- what examine finds is decode's fault
+  fault-is : examinedOf s .fault ≡ decodeFault s
+  unfolding examinedOf decodeFault
+  fault-is = go (eqb (length s) 24)
+    where
+      go : (b : Bool) → cond b (examinedFields (fieldsOf s)) notExamined .fault ≡ cond b (tokenFault (shapeOf (fieldsOf s .opcode)) (fieldsOf s)) (refusal 24 0 0)
+      go true = refl
+      go false = refl
 
-  pub wrong-length : (length s ≡ 24 → ⊥) → Decodes s (Refused (refusal 24 0 0))
-  unfolding decodeFault
-  wrong-length n = refused (refusal 24 0 0) (simp (ne-eqb _ _ n)) (λ e. omega (arith, e))
+  -- what examine finds without a fault is the token
+  fields-are : examinedOf s .fault .number ≡ 0 → examinedOf s ≡ examinedFields (fieldsOf s)
+  unfolding examinedOf
+  fields-are = go (eqb (length s) 24)
+    where
+      go : (b : Bool) → cond b (examinedFields (fieldsOf s)) notExamined .fault .number ≡ 0 → cond b (examinedFields (fieldsOf s)) notExamined ≡ examinedFields (fieldsOf s)
+      go true e = refl
+      go false e = absurd (omega (arith, e))
 
-  module _ (h : length s ≡ 24) where
-    fault : decodeFault s ≡ tokenFault (shapeOf (fieldsOf s .opcode)) (fieldsOf s)
-    unfolding decodeFault
-    fault = simp (eq-eqb _ _ h)
-
-    pub with-fault : (r : Refusal) → r ≡ tokenFault (shapeOf (fieldsOf s .opcode)) (fieldsOf s) → (r .number ≡ 0 → ⊥) → Decodes s (Refused r)
-    with-fault r e n = refused r (fault ∙ sym e) n
-
-    pub no-faults : tokenFault (shapeOf (fieldsOf s .opcode)) (fieldsOf s) .number ≡ 0 → Decodes s (Accepted (tokenOf (shapeOf (fieldsOf s .opcode)) (fieldsOf s)))
+  module _ (x : Examined) (e : x ≡ examinedOf s) where
+    pub refused-by : (x .fault .number ≡ 0 → ⊥) → Decodes s (Refused (x .fault))
     unfolding decodeOf
-    no-faults e =
-        let z = fault ∙ no-fault (shapeOf (fieldsOf s .opcode)) (fieldsOf s) e in
-        record { answer = sym (rw z); numbers = sym z }
+    refused-by n =
+        let q : decodeFault s ≡ x .fault = sym (ap (λ k. k .fault) e ∙ fault-is) in
+        record { answer = sym (rw (q, ne-eqb (x .fault .number) 0 n)); numbers = sym q }
+
+    pub token-by : x .fault .number ≡ 0 → x ≡ examinedFields (fieldsOf s)
+    token-by n = e ∙ fields-are (sym (ap (λ k. k .fault .number) e) ∙ n)
+
+    pub accepted-by : x .fault .number ≡ 0 → Decodes s (Accepted (tokenOf (x .shape) (x .fields)))
+    unfolding decodeOf
+    accepted-by n =
+        let k = token-by n in
+        let f = no-fault (shapeOf (fieldsOf s .opcode)) (fieldsOf s) (sym (ap (λ k. k .fault .number) k) ∙ n) in
+        let z : decodeFault s ≡ noRefusal = sym (ap (λ k. k .fault) e ∙ fault-is) ∙ ap (λ k. k .fault) k ∙ f in
+        record { answer = ap (λ k. Accepted (tokenOf (k .shape) (k .fields))) k ∙ sym (rw z); numbers = sym z }
+
+  pub no-faults : length s ≡ 24 → tokenFault (shapeOf (fieldsOf s .opcode)) (fieldsOf s) .number ≡ 0 → Decodes s (Accepted (tokenOf (shapeOf (fieldsOf s .opcode)) (fieldsOf s)))
+  unfolding examinedOf
+  no-faults h e = accepted-by (examinedFields (fieldsOf s)) (sym (rw (eq-eqb _ _ h))) e
 
 -- ---- what a token without a fault is
 
@@ -116,6 +135,19 @@ module _ (s : Shape) (f : Fields) where
       let (u1, v1) = both-clean (eqb (operandBits (s .source1)) 0) _ (c .source1) in
       let (u2, v2) = both-clean (eqb (operandBits (s .source2)) 0) _ (c .source2) in
       rw (c .listed, ud, u1, u2, vd, v1, v2)
+
+  -- the test that the code makes of all fields at once
+  pub clean-by : isClean s f ≡ true → Clean s f
+  unfolding isClean
+  clean-by e = go (s .listed) (isStray (destinationBits (s .destination)) (f .destination)) (isStray (operandBits (s .source1)) (f .source1)) (isStray (operandBits (s .source2)) (f .source2)) refl refl refl refl e
+    where
+      go : (l d a b : Bool) → s .listed ≡ l → isStray (destinationBits (s .destination)) (f .destination) ≡ d → isStray (operandBits (s .source1)) (f .source1) ≡ a → isStray (operandBits (s .source2)) (f .source2) ≡ b
+          → (l && not (d || a || b)) ≡ true → Clean s f
+      go true false false false l d a b k = record { listed = l; destination = d; source1 = a; source2 = b }
+      go true false false true l d a b k = absurd (false≢true k)
+      go true false true x l d a b k = absurd (false≢true k)
+      go true true x y l d a b k = absurd (false≢true k)
+      go false x y z l d a b k = absurd (false≢true k)
 
 -- an accepted answer has no fault
 pub accepted : (s : List ℕ) (t : Token) → decodeOf s ≡ Accepted t

@@ -1,11 +1,11 @@
 -- Document 01: the faults that decode gives, 24, then 9, 12, 13, and the record where there is none.
 use Prim.Native.Nat.{ℕ}
-use mathlib.Core.Bool.{Bool, true, false, not, cond, _&&_}
+use mathlib.Core.Bool.{Bool, true, false, not, cond, _&&_, _||_}
 use mathlib.Core.List.{List}
 use mathlib.Core.Path.{_≡_}
 use lib.Dec.{eqb}
 use lib.ListN.{length}
-use Rattle.bytecode.specs.Opcodes.{shapeOf}
+use Rattle.bytecode.specs.Opcodes.{unlisted, shapeOf}
 use Rattle.bytecode.specs.Layout.{destinationBits, operandBits, isStray}
 use Rattle.bytecode.specs.Fields.{fieldsOf}
 use Rattle.bytecode.specs.Records.{tokenOf}
@@ -14,6 +14,7 @@ use Rattle.bytecode.specs.declared.fields.Fields.{Fields}
 use Rattle.bytecode.specs.declared.record.Token.{Token}
 use Rattle.bytecode.specs.declared.answers.Refusal.{Refusal}
 use Rattle.bytecode.specs.declared.answers.Decoded.{Decoded}
+use Rattle.bytecode.specs.declared.answers.Examined.{Examined}
 use Rattle.bytecode.specs.declared.answers.Decoded.the-variants.{Token as Accepted, Refused}
 
 -- the numbers of a refusal: fault, token and part
@@ -65,6 +66,29 @@ tokenFault shape f =
 -- 24 comes first
 unfoldable pub decodeFault : List ℕ → Refusal
 decodeFault s = cond (eqb (length s) 24) (tokenFault (shapeOf (fieldsOf s .opcode)) (fieldsOf s)) (refusal 24 0 0)
+
+-- no fault of fields: the opcode is listed, and no field has a bit that is not among its defined ones
+unfoldable pub isClean : Shape → Fields → Bool
+isClean shape f =
+    shape .listed && not
+    (isStray (destinationBits (shape .destination)) (f .destination)
+    || isStray (operandBits (shape .source1)) (f .source1)
+    || isStray (operandBits (shape .source2)) (f .source2))
+
+-- what examine answers: the fault that decode gives, and what it makes a record of
+abbrev pub notExamined : Examined
+notExamined =
+    record {
+      fault = refusal 24 0 0;
+      shape = unlisted;
+      fields = record { opcode = 0; destination = 0; source1 = 0; source2 = 0 };
+    }
+
+abbrev pub examinedFields : Fields → Examined
+examinedFields f = record { fault = tokenFault (shapeOf (f .opcode)) f; shape = shapeOf (f .opcode); fields = f }
+
+unfoldable pub examinedOf : List ℕ → Examined
+examinedOf s = cond (eqb (length s) 24) (examinedFields (fieldsOf s)) notExamined
 
 -- what decode answers
 unfoldable pub decodeOf : List ℕ → Decoded

@@ -74,3 +74,10 @@ shapeOfRow r =
 -- the shape of every opcode number
 abbrev pub shapeOf : ℕ → Shape
 shapeOf o = shapeOfRow (rowOf o)
+
+-- a source where one is used; tex alone has a sampler
+abbrev pub sourceShape : Bool → OperandShape
+sourceShape used = cond used Source Unused
+
+abbrev pub secondShape : ℕ → Bool → OperandShape
+secondShape o used = cond (eqb o tex) Sampler (sourceShape used)

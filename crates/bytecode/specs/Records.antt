@@ -1,6 +1,6 @@
 -- Document 01, "Layout": the record that a token's fields make.
 use Prim.Native.Nat.{ℕ, _-_}
-use mathlib.Core.Bool.{Bool, true, false, cond}
+use mathlib.Core.Bool.{Bool, true, false, not, cond}
 use lib.Dec.{eqb, ltb}
 use lib.IntN.{ℤ, pos, negsuc}
 use Rattle.bytecode.specs.Layout as layout
@@ -54,6 +54,9 @@ indexedOf f =
     }
 
 -- D = 0 is direct, D = 1 indirect
+abbrev pub isIndexed : ℕ → Bool
+isIndexed f = not (eqb (valueOf layout.indirect f) 0)
+
 abbrev pub sourceOf : ℕ → Operand
 sourceOf f = cond (eqb (valueOf layout.indirect f) 0) (Direct (directOf f)) (Indexed (indexedOf f))
 

@@ -1,4 +1,6 @@
 // What decode and encode answer.
+use crate::fields::Fields;
+use crate::opcodes::Shape;
 use crate::record::Token;
 
 // A refusal by the numbers of the format's rules: the fault, the token it stands at, and the part of the token (0 opcode, 1 destination,
@@ -12,6 +14,13 @@ pub struct Refusal {
 pub enum Decoded {
     Token(Token),
     Refused(Refusal),
+}
+
+// A token before its record is made. Where the fault's number is not 0, the rest tells nothing.
+pub struct Examined {
+    pub fault: Refusal,
+    pub shape: Shape,
+    pub fields: Fields,
 }
 
 pub enum Encoded {

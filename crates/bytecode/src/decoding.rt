@@ -1,13 +1,15 @@
 // Decode: a record from 24 bytes, or the first fault.
 ghost use mathlib.Core.Path.{_≡_};
-ghost use Rattle.bytecode.specs.Decode.{Decodes, tokenFault, unusedNotZero, undefinedBitSet, unusedPart, undefinedPart, lowestPart, refusal};
+ghost use Rattle.bytecode.specs.Decode.{Decodes, examinedOf, notExamined, isClean, tokenFault, unusedNotZero, undefinedBitSet, unusedPart, undefinedPart, lowestPart, refusal};
 ghost use Rattle.bytecode.specs.Records.{tokenOf};
 use crate::answers::Decoded;
+use crate::answers::Examined;
 use crate::answers::Refusal;
 use crate::fields;
 use crate::fields::Fields;
 use crate::layout;
 use crate::opcodes;
+use crate::opcodes::OperandShape;
 use crate::opcodes::Shape;
 use crate::record::Token;
 use crate::unpack;
@@ -15,16 +17,53 @@ use crate::unpack;
 pub fn decode(bytes: &[u8]) -> Decoded
     ensures { λ r. ⌜ Decodes (now (bytes .entry)) r ⌝ }
 {
-    if bytes.len() != 24 {
-        return Decoded::Refused(refused(24, 0));
-    }
-    let f = fields::read_fields(bytes);
-    let shape = opcodes::shape_of(f.opcode);
-    let fault = fault_of(shape, f);
+    let found = examine(bytes);
+    let fault = found.fault;
     if fault.number != 0 {
         return Decoded::Refused(fault);
     }
+    let shape = found.shape;
+    let f = found.fields;
     Decoded::Token(token_of(shape, f))
+}
+
+// What decode sees before it makes a record: the fields of a token, what its opcode holds, and the first fault, with number 0 where there
+// is none.
+pub fn examine(bytes: &[u8]) -> Examined
+    ensures { λ r. ⌜ r ≡ examinedOf (now (bytes .entry)) ⌝ }
+{
+    if bytes.len() != 24 {
+        return too_short_or_long();
+    }
+    let fields = fields::read_fields(bytes);
+    let shape = opcodes::shape_of(fields.opcode);
+    let fault = fault_of(shape, fields);
+    Examined {
+        fault,
+        shape,
+        fields,
+    }
+}
+
+fn too_short_or_long() -> Examined
+    ensures { λ r. ⌜ r ≡ notExamined ⌝ }
+{
+    let fault = refused(24, 0);
+    Examined {
+        fault,
+        shape: Shape {
+            listed: false,
+            destination: false,
+            source1: OperandShape::Unused,
+            source2: OperandShape::Unused,
+        },
+        fields: Fields {
+            opcode: 0,
+            destination: 0,
+            source1: 0,
+            source2: 0,
+        },
+    }
 }
 
 fn token_of(shape: Shape, f: Fields) -> Token
@@ -47,6 +86,9 @@ fn token_of(shape: Shape, f: Fields) -> Token
 fn fault_of(shape: Shape, f: Fields) -> Refusal
     ensures { λ r. ⌜ r ≡ tokenFault shape f ⌝ }
 {
+    if is_clean(shape, f) {
+        return refused(0, 0);
+    }
     if !shape.listed {
         return refused(9, 0);
     }
@@ -59,6 +101,18 @@ fn fault_of(shape: Shape, f: Fields) -> Refusal
         return refused(13, undefined);
     }
     refused(0, 0)
+}
+
+// Whether the opcode is listed and no field has a stray bit. Most tokens are clean, so it is tested first.
+fn is_clean(shape: Shape, f: Fields) -> bool
+    ensures { λ r. ⌜ r ≡ isClean shape f ⌝ }
+{
+    let shape1 = shape.source1;
+    let shape2 = shape.source2;
+    let destination = layout::is_stray(layout::destination_bits(shape.destination), f.destination);
+    let source1 = layout::is_stray(layout::operand_bits(shape1), f.source1);
+    let source2 = layout::is_stray(layout::operand_bits(shape2), f.source2);
+    shape.listed & !(destination | source1 | source2)
 }
 
 // The lowest part that is unused and not 0, or 0.

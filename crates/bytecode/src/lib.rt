@@ -13,6 +13,12 @@ mod unpack;
 
 pub use biases::bias;
 pub use decoding::decode;
+pub use decoding::examine;
 pub use encoding::encodable;
 pub use encoding::encode;
 pub use swizzles::components;
+pub use unpack::is_indexed;
+pub use unpack::unpack_direct;
+pub use unpack::unpack_indexed;
+pub use unpack::unpack_register;
+pub use unpack::unpack_sampler;

@@ -1,6 +1,6 @@
 // The opcodes, and what a token of each holds.
 ghost use mathlib.Core.Path.{_≡_};
-ghost use Rattle.bytecode.specs.Opcodes.{shapeOf, shapeOfRow, holds};
+ghost use Rattle.bytecode.specs.Opcodes.{shapeOf, sourceShape, secondShape};
 
 // What stands in the field of a source.
 pub enum OperandShape {
@@ -17,108 +17,57 @@ pub struct Shape {
     pub source2: OperandShape,
 }
 
-// The rows of the table below.
-const UNLISTED: u8 = 0;
+// Sets of opcodes, bit by bit from mov, 00: those that are listed, that have a destination, a source 1, and a source 2 other than a sampler.
+const LISTED: u64 = 0x3783_FFFF_FFFF;
 
-const BARE: u8 = 1;
+const WITH_DESTINATION: u64 = 0x3700_0FFF_FFFF;
 
-const UNARY: u8 = 2;
+const WITH_SOURCE1: u64 = 0x3780_FFFF_FFFF;
 
-const BINARY: u8 = 3;
+const WITH_SOURCE2: u64 = 0x3600_F38E_08DE;
 
-const OPENER: u8 = 4;
-
-const KIL: u8 = 5;
-
-const TEX: u8 = 6;
-
-// By opcode, from mov, 00, to sne, 2d.
-const ROWS: [u8; 46] = [
-    UNARY,
-    BINARY,
-    BINARY,
-    BINARY,
-    BINARY,
-    UNARY,
-    BINARY,
-    BINARY,
-    UNARY,
-    UNARY,
-    UNARY,
-    BINARY,
-    UNARY,
-    UNARY,
-    UNARY,
-    UNARY,
-    UNARY,
-    BINARY,
-    BINARY,
-    BINARY,
-    UNARY,
-    UNARY,
-    UNARY,
-    BINARY,
-    BINARY,
-    BINARY,
-    UNARY,
-    UNARY,
-    OPENER,
-    OPENER,
-    OPENER,
-    OPENER,
-    BARE,
-    BARE,
-    UNLISTED,
-    UNLISTED,
-    UNLISTED,
-    UNLISTED,
-    UNLISTED,
-    KIL,
-    TEX,
-    BINARY,
-    BINARY,
-    UNLISTED,
-    BINARY,
-    BINARY,
-];
+const TEX: u32 = 0x28;
 
 // The shape of every opcode number.
 pub fn shape_of(opcode: u32) -> Shape
     ensures { λ r. ⌜ r ≡ shapeOf opcode ⌝ }
 {
-    if 46 <= opcode {
-        return holding(UNLISTED);
-    }
-    holding(ROWS[opcode as usize])
-}
-
-// What a row of the table stands for.
-fn holding(row: u8) -> Shape
-    ensures { λ r. ⌜ r ≡ shapeOfRow row ⌝ }
-{
-    match row {
-        BARE => listed(false, OperandShape::Unused, OperandShape::Unused),
-        UNARY => listed(true, OperandShape::Source, OperandShape::Unused),
-        BINARY => listed(true, OperandShape::Source, OperandShape::Source),
-        OPENER => listed(false, OperandShape::Source, OperandShape::Source),
-        KIL => listed(false, OperandShape::Source, OperandShape::Unused),
-        TEX => listed(true, OperandShape::Source, OperandShape::Sampler),
-        _ => Shape {
+    if 64 <= opcode {
+        return Shape {
             listed: false,
             destination: false,
             source1: OperandShape::Unused,
             source2: OperandShape::Unused,
-        },
+        };
     }
-}
-
-fn listed(destination: bool, source1: OperandShape, source2: OperandShape) -> Shape
-    ensures { λ r. ⌜ r ≡ holds destination source1 source2 ⌝ }
-{
+    let listed = (LISTED >> opcode) % 2 == 1;
+    let destination = (WITH_DESTINATION >> opcode) % 2 == 1;
+    let source1 = source((WITH_SOURCE1 >> opcode) % 2 == 1);
+    let source2 = second_source(opcode, (WITH_SOURCE2 >> opcode) % 2 == 1);
     Shape {
-        listed: true,
+        listed,
         destination,
         source1,
         source2,
     }
+}
+
+fn source(used: bool) -> OperandShape
+    ensures { λ r. ⌜ r ≡ sourceShape used ⌝ }
+{
+    if used {
+        OperandShape::Source
+    } else {
+        OperandShape::Unused
+    }
+}
+
+// Only tex has a sampler.
+fn second_source(opcode: u32, used: bool) -> OperandShape
+    ensures { λ r. ⌜ r ≡ secondShape opcode used ⌝ }
+{
+    if opcode == TEX {
+        return OperandShape::Sampler;
+    }
+    source(used)
 }

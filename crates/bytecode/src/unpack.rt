@@ -1,8 +1,9 @@
-// A record from the fields of a token: each value is read at its bits.
+// A record from the fields of a token: each value is read at its bits. Every field has the values of every kind of part; which kind it is
+// comes from the opcode.
 ghost use mathlib.Core.Path.{_≡_};
 ghost use Rattle.bytecode.specs.Layout as layout;
 ghost use Rattle.bytecode.specs.Layout.{valueOf};
-ghost use Rattle.bytecode.specs.Records.{signed, registerOf, sourceOf, samplerOf, destinationOf, operandOf};
+ghost use Rattle.bytecode.specs.Records.{signed, registerOf, isIndexed, directOf, indexedOf, sourceOf, samplerOf, destinationOf, operandOf};
 use crate::layout;
 use crate::opcodes::OperandShape;
 use crate::record::Destination;
@@ -32,7 +33,7 @@ pub(crate) fn unpack_operand(shape: OperandShape, field: u64) -> Operand
     }
 }
 
-fn unpack_register(field: u64) -> MaskedRegister
+pub fn unpack_register(field: u64) -> MaskedRegister
     ensures { λ r. ⌜ r ≡ registerOf field ⌝ }
 {
     let number = number_of(field);
@@ -44,34 +45,58 @@ fn unpack_register(field: u64) -> MaskedRegister
 fn unpack_source(field: u64) -> Operand
     ensures { λ r. ⌜ r ≡ sourceOf field ⌝ }
 {
+    if is_indexed(field) {
+        return Operand::Indexed(unpack_indexed(field));
+    }
+    Operand::Direct(unpack_direct(field))
+}
+
+// Whether the field of a source is that of an indexed one.
+pub fn is_indexed(field: u64) -> bool
+    ensures { λ r. ⌜ r ≡ isIndexed field ⌝ }
+{
+    indirect_of(field) != 0
+}
+
+pub fn unpack_direct(field: u64) -> DirectSource
+    ensures { λ r. ⌜ r ≡ directOf field ⌝ }
+{
     let number = number_of(field);
     let offset = offset_of(field);
     let swizzle = swizzle_of(field);
     let kind = kind_of(field);
     let index_kind = index_kind_of(field);
     let component = component_of(field);
-    let indirect = indirect_of(field);
-    if indirect == 0 {
-        return Operand::Direct(DirectSource {
-            number,
-            offset,
-            swizzle,
-            kind,
-            index_kind,
-            component,
-        });
-    }
-    Operand::Indexed(IndexedSource {
+    DirectSource {
         number,
         offset,
         swizzle,
         kind,
         index_kind,
         component,
-    })
+    }
 }
 
-fn unpack_sampler(field: u64) -> Sampler
+pub fn unpack_indexed(field: u64) -> IndexedSource
+    ensures { λ r. ⌜ r ≡ indexedOf field ⌝ }
+{
+    let number = number_of(field);
+    let offset = offset_of(field);
+    let swizzle = swizzle_of(field);
+    let kind = kind_of(field);
+    let index_kind = index_kind_of(field);
+    let component = component_of(field);
+    IndexedSource {
+        number,
+        offset,
+        swizzle,
+        kind,
+        index_kind,
+        component,
+    }
+}
+
+pub fn unpack_sampler(field: u64) -> Sampler
     ensures { λ r. ⌜ r ≡ samplerOf field ⌝ }
 {
     let number = number_of(field);

@@ -1,62 +1,29 @@
 -- `decode` meets its contract.
 -- Assumes nothing.
+use Rattle.bytecode.proofs.DecodeLaws.{refused-by, accepted-by}
 use borrow.Author.Needs.{needs}
-use mathlib.Core.Path.{_≡_, _∙_, sym, ap}
-use denote.Ref.{now}
-use Rattle.bytecode.specs.Opcodes.{shapeOf}
-use Rattle.bytecode.specs.Fields.{fieldsOf}
-use Rattle.bytecode.specs.Records.{tokenOf}
-use Rattle.bytecode.specs.Decode.{tokenFault}
-use Rattle.bytecode.proofs.DecodeLaws.{wrong-length, with-fault, no-faults}
 use Rattle.bytecode.proofs.decoding.decode.Statement.{statement}
 use Rattle.bytecode.proofs.decoding.decode.Tie as tie
+use Rattle.bytecode.proofs.decoding.decode.Reads as reads
+use Rattle.bytecode.proofs.decoding.decode.Lts as lts
+use Rattle.bytecode.proofs.decoding.examine.Reads as examine-reads
+use Rattle.bytecode.proofs.decoding.token_of.Reads as token-of-reads
 
-refused-requires : tie.Need-refused-requires
-refused-requires c κs = search needs
+-- src/decoding.rt:20:9
+examine-requires : tie.Need-examine-requires
+examine-requires c κs = search needs
 
+-- src/decoding.rt:23:9
 returns : tie.Need-returns
-returns c = rw (c .refused .ensures) (wrong-length _ (c .before .if1 .taken))
+returns c = refused-by _ (c .before .before .before .examine .result) (c .before .before .before .examine .ensures) (c .if1 .taken)
 
-read-fields-requires : tie.Need-read-fields-requires
-read-fields-requires c κs = search needs
-
-shape-of-requires : tie.Need-shape-of-requires
-shape-of-requires c κs = search needs
-
-fault-of-requires : tie.Need-fault-of-requires
-fault-of-requires c κs = search needs
-
-returns-2 : tie.Need-returns-2
-returns-2 c =
-    let s = now (c .before .before .before .before .before .before .before .args .bytes) in
-    let r = c .before .before .fault-of in
-    let f = c .before .before .before .before .read-fields .ensures in
-    let k = c .before .before .before .shape-of .ensures in
-    let e : r .result ≡ tokenFault (shapeOf (fieldsOf s .opcode)) (fieldsOf s) = cc (f, k, r .ensures) in
-    with-fault s (c .before .before .before .before .before .if1 .left) (r .result) e (c .if2 .taken)
-
+-- src/decoding.rt:27:20
 token-of-requires : tie.Need-token-of-requires
 token-of-requires c κs = search needs
 
-returns-3 : tie.Need-returns-3
-returns-3 c =
-    let s = now (c .before .before .before .before .before .before .before .before .args .bytes) in
-    let r = c .before .before .before .fault-of in
-    let f = c .before .before .before .before .before .read-fields .ensures in
-    let k = c .before .before .before .before .shape-of .ensures in
-    let e : r .result ≡ tokenFault (shapeOf (fieldsOf s .opcode)) (fieldsOf s) = cc (f, k, r .ensures) in
-    let t : c .token-of .result ≡ tokenOf (shapeOf (fieldsOf s .opcode)) (fieldsOf s) = cc (f, k, c .token-of .ensures) in
-    rw t (no-faults s (c .before .before .before .before .before .before .if1 .left) (sym (ap (λ r. r .number) e) ∙ c .before .if2 .left))
+-- src/decoding.rt:17:1
+returns-2 : tie.Need-returns-2
+returns-2 c = rw (c .token-of .ensures) (accepted-by _ (c .before .before .before .before .before .before .examine .result) (c .before .before .before .before .before .before .examine .ensures) (c .before .before .before .if1 .left))
 
 pub decode-spec : {M : Type 1} → statement M
-decode-spec =
-    tie.close
-    (tie.spec
-    refused-requires
-    returns
-    read-fields-requires
-    shape-of-requires
-    fault-of-requires
-    returns-2
-    token-of-requires
-    returns-3)
+decode-spec = tie.close (tie.spec examine-requires returns token-of-requires returns-2)

@@ -1,37 +1,56 @@
--- `shape_of` meets its contract: the table is `rowOf`, entry by entry, and past it no opcode is listed.
+-- `shape_of` meets its contract.
 -- Assumes nothing.
-use Prim.Native.Nat.{ℕ}
-use mathlib.Core.List.{List, [], _∷_}
-use mathlib.Core.Path.{_∙_, ap}
+use mathlib.Core.Path.{_∙_}
+use Rattle.bytecode.proofs.ShapeSets.{sets-are, past-sets}
 use borrow.Author.Needs.{needs}
-use Rattle.bytecode.specs.Opcodes.{rowOf, shapeOfRow}
-use Rattle.laws.proofs.Every.{entry}
-use Rattle.bytecode.proofs.Listed.{past}
 use Rattle.bytecode.proofs.opcodes.shape_of.Statement.{statement}
 use Rattle.bytecode.proofs.opcodes.shape_of.Tie as tie
+use Rattle.bytecode.proofs.opcodes.shape_of.Reads as reads
+use Rattle.bytecode.proofs.opcodes.shape_of.Lts as lts
+use Rattle.bytecode.proofs.opcodes.second_source.Reads as second-source-reads
+use Rattle.bytecode.proofs.opcodes.source.Reads as source-reads
 
-rows : List ℕ
-rows =
-    2 ∷ 3 ∷ 3 ∷ 3 ∷ 3 ∷ 2 ∷ 3 ∷ 3 ∷ 2 ∷ 2 ∷ 2 ∷ 3 ∷ 2 ∷ 2 ∷ 2 ∷ 2 ∷ 2 ∷ 3 ∷ 3 ∷ 3 ∷ 2 ∷ 2 ∷ 2 ∷
-    3 ∷ 3 ∷ 3 ∷ 2 ∷ 2 ∷ 4 ∷ 4 ∷ 4 ∷ 4 ∷ 1 ∷ 1 ∷ 0 ∷ 0 ∷ 0 ∷ 0 ∷ 0 ∷ 5 ∷ 6 ∷ 3 ∷ 3 ∷ 0 ∷ 3 ∷ 3 ∷ []
-
-holding-requires : tie.Need-holding-requires
-holding-requires c κs = search needs
-
+-- src/opcodes.rt:36:9
 returns : tie.Need-returns
-unfolding shapeOfRow
-returns c = rw (past _ (c .before .if1 .taken)) (c .holding .ensures)
+returns c = past-sets _ (c .if1 .taken)
 
-array-read-holding : tie.Need-array-read-holding
-array-read-holding c = search needs
+-- src/opcodes.rt:43:19
+shr-listed : tie.Need-shr-listed
+shr-listed c = search needs
 
-holding-requires-2 : tie.Need-holding-requires-2
-holding-requires-2 c κs = search needs
+-- src/opcodes.rt:44:24
+shr-destination : tie.Need-shr-destination
+shr-destination c = search needs
 
+-- src/opcodes.rt:45:27
+shr-source : tie.Need-shr-source
+shr-source c = search needs
+
+-- src/opcodes.rt:45:9
+source-requires : tie.Need-source-requires
+source-requires c κs = search needs
+
+-- src/opcodes.rt:46:42
+shr-second-source : tie.Need-shr-second-source
+shr-second-source c = search needs
+
+-- src/opcodes.rt:46:9
+second-source-requires : tie.Need-second-source-requires
+second-source-requires c κs = search needs
+
+-- src/opcodes.rt:32:1
 returns-2 : tie.Need-returns-2
-unfolding rows rowOf
-returns-2 c = c .holding2 .ensures ∙ ap shapeOfRow (entry rowOf rows tt (c .before .before .args .opcode) (search needs))
+returns-2 c = simp (c .second-source .ensures, c .before .source .ensures) (sets-are _ (c .before .before .if1 .left))
 
 pub shape-of-spec : {M : Type 1} → statement M
 shape-of-spec =
-    tie.close (tie.spec holding-requires returns array-read-holding holding-requires-2 returns-2)
+    tie.close
+    (tie.spec
+    returns
+    shr-listed
+    shr-destination
+    shr-source
+    source-requires
+    shr-second-source
+    second-source-requires
+    returns-2)

@@ -1,66 +1,38 @@
 -- `unpack_source` meets its contract.
 -- Assumes nothing.
+use mathlib.Core.Path.{_∙_, sym, ap}
+use Rattle.bytecode.specs.declared.record.Operand.the-variants.{Direct, Indexed}
+use Rattle.bytecode.proofs.SourceKinds.{indexed-source, direct-source}
 use borrow.Author.Needs.{needs}
-use mathlib.Core.Path.{_∙_, sym}
-use borrow.Author.Tests.{eq-eqb, ne-eqb}
 use Rattle.bytecode.proofs.unpack.unpack_source.Statement.{statement}
 use Rattle.bytecode.proofs.unpack.unpack_source.Tie as tie
+use Rattle.bytecode.proofs.unpack.unpack_source.Reads as reads
+use Rattle.bytecode.proofs.unpack.unpack_source.Lts as lts
+use Rattle.bytecode.proofs.unpack.is_indexed.Reads as is-indexed-reads
+use Rattle.bytecode.proofs.unpack.unpack_direct.Reads as unpack-direct-reads
+use Rattle.bytecode.proofs.unpack.unpack_indexed.Reads as unpack-indexed-reads
 
-number-of-requires : tie.Need-number-of-requires
-number-of-requires c κs = search needs
+-- src/unpack.rt:48:8
+is-indexed-requires : tie.Need-is-indexed-requires
+is-indexed-requires c κs = search needs
 
-offset-of-requires : tie.Need-offset-of-requires
-offset-of-requires c κs = search needs
+-- src/unpack.rt:49:33
+unpack-indexed-requires : tie.Need-unpack-indexed-requires
+unpack-indexed-requires c κs = search needs
 
-swizzle-of-requires : tie.Need-swizzle-of-requires
-swizzle-of-requires c κs = search needs
-
-kind-of-requires : tie.Need-kind-of-requires
-kind-of-requires c κs = search needs
-
-index-kind-of-requires : tie.Need-index-kind-of-requires
-index-kind-of-requires c κs = search needs
-
-component-of-requires : tie.Need-component-of-requires
-component-of-requires c κs = search needs
-
-indirect-of-requires : tie.Need-indirect-of-requires
-indirect-of-requires c κs = search needs
-
+-- src/unpack.rt:49:9
 returns : tie.Need-returns
-returns c =
-    simp (
-      eq-eqb _ _ (sym (c .before .indirect-of .ensures) ∙ c .if1 .taken),
-      c .before .before .component-of .ensures,
-      c .before .before .before .index-kind-of .ensures,
-      c .before .before .before .before .kind-of .ensures,
-      c .before .before .before .before .before .swizzle-of .ensures,
-      c .before .before .before .before .before .before .offset-of .ensures,
-      c .before .before .before .before .before .before .before .number-of .ensures,
-    )
+returns c = ap Indexed (c .unpack-indexed .ensures) ∙ sym (indexed-source _ (sym (c .before .before .is-indexed .ensures) ∙ c .before .if1 .taken))
 
+-- src/unpack.rt:51:21
+unpack-direct-requires : tie.Need-unpack-direct-requires
+unpack-direct-requires c κs = search needs
+
+-- src/unpack.rt:45:1
 returns-2 : tie.Need-returns-2
-returns-2 c =
-    simp (
-      ne-eqb _ _ (λ e. c .if1 .left (c .before .indirect-of .ensures ∙ e)),
-      c .before .before .component-of .ensures,
-      c .before .before .before .index-kind-of .ensures,
-      c .before .before .before .before .kind-of .ensures,
-      c .before .before .before .before .before .swizzle-of .ensures,
-      c .before .before .before .before .before .before .offset-of .ensures,
-      c .before .before .before .before .before .before .before .number-of .ensures,
-    )
+returns-2 c = ap Direct (c .unpack-direct .ensures) ∙ sym (direct-source _ (sym (c .before .before .is-indexed .ensures) ∙ c .before .if1 .left))
 
 pub unpack-source-spec : {M : Type 1} → statement M
 unpack-source-spec =
     tie.close
-    (tie.spec
-    number-of-requires
-    offset-of-requires
-    swizzle-of-requires
-    kind-of-requires
-    index-kind-of-requires
-    component-of-requires
-    indirect-of-requires
-    returns
-    returns-2)
+    (tie.spec is-indexed-requires unpack-indexed-requires returns unpack-direct-requires returns-2)
