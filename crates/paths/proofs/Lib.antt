@@ -1,3 +1,4 @@
+pub mod AccessFields
 pub mod AccessLaws
 pub mod Among
 pub mod Bits

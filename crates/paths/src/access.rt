@@ -1,13 +1,14 @@
-// What a token reads through each source.
+// What a token reads through each source, from its fields and what its opcode holds.
 ghost use mathlib.Core.Path.{_≡_};
 ghost use Prim.Native.Nat.{_*_, _^_, _<_};
+ghost use Rattle.bytecode.specs.Records.{directOf, sourceOf, destinationOf, operandOf, tokenOf};
 ghost use Rattle.paths.specs.Reads.{maskOf, dimensionOf, rowCount2};
 ghost use Rattle.paths.specs.Access.{amongOf, namedSet, coordinateSet, selectorSet1, selectorSet2, readSet2};
-ghost use Rattle.paths.specs.Access.{noAccess, indexAccess, accessThrough, swizzleOf, access1Of, access2Of};
-use bytecode::record::Destination;
+ghost use Rattle.paths.specs.Access.{noAccess, indexAccess, accessThrough, access1Of, access2Of};
+use bytecode::fields::Fields;
+use bytecode::opcodes::OperandShape;
+use bytecode::opcodes::Shape;
 use bytecode::record::IndexedSource;
-use bytecode::record::Operand;
-use bytecode::record::Token;
 
 // A register of some kind, how many rows from it, and the components that are read of each: bit 0 is x, bit 3 is w.
 pub struct Access {
@@ -47,40 +48,54 @@ const FIRST_THREE: u8 = 7;
 const ALL_FOUR: u8 = 15;
 
 // What a token reads through source 1.
-pub fn access1(token: Token) -> Access
-    ensures { λ r. ⌜ r ≡ access1Of token ⌝ }
+pub fn access1(shape: Shape, f: Fields) -> Access
+    ensures { λ r. ⌜ r ≡ access1Of (tokenOf shape f) ⌝ }
 {
-    let destination = token.destination;
-    let source1 = token.source1;
-    let source2 = token.source2;
-    let selectors = selectors1(token.opcode, mask_of(destination), dimension_of(source2));
-    through(source1, 1, named(swizzle_of(source1), selectors))
+    let shape1 = shape.source1;
+    let shape2 = shape.source2;
+    let mask = mask_of(shape.destination, f.destination);
+    let selectors = selectors1(f.opcode, mask, dimension_of(shape2, f.source2));
+    through(
+        shape1,
+        f.source1,
+        1,
+        named(swizzle_of(f.source1), selectors),
+    )
 }
 
 // What a token reads through source 2.
-pub fn access2(token: Token) -> Access
-    ensures { λ r. ⌜ r ≡ access2Of token ⌝ }
+pub fn access2(shape: Shape, f: Fields) -> Access
+    ensures { λ r. ⌜ r ≡ access2Of (tokenOf shape f) ⌝ }
 {
-    let destination = token.destination;
-    let source2 = token.source2;
-    let components = components2(token.opcode, mask_of(destination), swizzle_of(source2));
-    through(source2, rows2(token.opcode), components)
+    let shape2 = shape.source2;
+    let mask = mask_of(shape.destination, f.destination);
+    let components = components2(f.opcode, mask, swizzle_of(f.source2));
+    through(shape2, f.source2, rows2(f.opcode), components)
 }
 
 // What is read through an operand: rows and components count for a direct source only.
-fn through(operand: Operand, rows: u8, components: u8) -> Access
-    ensures { λ r. ⌜ r ≡ accessThrough operand rows components ⌝ }
+fn through(shape: OperandShape, field: u64, rows: u8, components: u8) -> Access
+    ensures { λ r. ⌜ r ≡ accessThrough (operandOf shape field) rows components ⌝ }
 {
-    match operand {
-        Operand::Unused => nothing(),
-        Operand::Direct(s) => Access {
-            kind: s.kind,
-            register: s.number,
-            rows,
-            components,
-        },
-        Operand::Indexed(s) => index_of(s),
-        Operand::Sampler(_) => nothing(),
+    match shape {
+        OperandShape::Unused => nothing(),
+        OperandShape::Source => through_source(field, rows, components),
+        OperandShape::Sampler => nothing(),
+    }
+}
+
+fn through_source(field: u64, rows: u8, components: u8) -> Access
+    ensures { λ r. ⌜ r ≡ accessThrough (sourceOf field) rows components ⌝ }
+{
+    if bytecode::is_indexed(field) {
+        return index_of(bytecode::unpack_indexed(field));
+    }
+    let source = bytecode::unpack_direct(field);
+    Access {
+        kind: source.kind,
+        register: source.number,
+        rows,
+        components,
     }
 }
 
@@ -107,35 +122,34 @@ fn index_of(source: IndexedSource) -> Access
     }
 }
 
-fn mask_of(destination: Destination) -> u8
-    ensures { λ r. ⌜ r ≡ maskOf destination ⌝ }
+fn mask_of(used: bool, field: u64) -> u8
+    ensures { λ r. ⌜ r ≡ maskOf (destinationOf used field) ⌝ }
 {
-    match destination {
-        Destination::Unused => 0,
-        Destination::Masked(r) => r.mask,
+    if used {
+        let register = bytecode::unpack_register(field);
+        return register.mask;
     }
+    0
 }
 
-// The swizzle of a direct source: no other operand is read through one.
-fn swizzle_of(operand: Operand) -> u8
-    ensures { λ r. ⌜ r ≡ swizzleOf operand ⌝ }
+// The swizzle that a field has if it is that of a direct source: no other operand is read through one.
+fn swizzle_of(field: u64) -> u8
+    ensures { λ r. ⌜ r ≡ directOf field .swizzle ⌝ }
 {
-    match operand {
-        Operand::Unused => 0,
-        Operand::Direct(s) => s.swizzle,
-        Operand::Indexed(_) => 0,
-        Operand::Sampler(_) => 0,
-    }
+    let source = bytecode::unpack_direct(field);
+    source.swizzle
 }
 
-fn dimension_of(operand: Operand) -> u8
-    ensures { λ r. ⌜ r ≡ dimensionOf operand ⌝ }
+fn dimension_of(shape: OperandShape, field: u64) -> u8
+    ensures { λ r. ⌜ r ≡ dimensionOf (operandOf shape field) ⌝ }
 {
-    match operand {
-        Operand::Unused => 0,
-        Operand::Direct(_) => 0,
-        Operand::Indexed(_) => 0,
-        Operand::Sampler(s) => s.dimension,
+    match shape {
+        OperandShape::Unused => 0,
+        OperandShape::Source => 0,
+        OperandShape::Sampler => {
+            let sampler = bytecode::unpack_sampler(field);
+            sampler.dimension
+        }
     }
 }
 

@@ -4,24 +4,16 @@ use Rattle.bytecode.proofs.DecodeLaws.{refused-by, accepted-by}
 use borrow.Author.Needs.{needs}
 use Rattle.bytecode.proofs.decoding.decode.Statement.{statement}
 use Rattle.bytecode.proofs.decoding.decode.Tie as tie
-use Rattle.bytecode.proofs.decoding.decode.Reads as reads
-use Rattle.bytecode.proofs.decoding.decode.Lts as lts
-use Rattle.bytecode.proofs.decoding.examine.Reads as examine-reads
-use Rattle.bytecode.proofs.decoding.token_of.Reads as token-of-reads
 
--- src/decoding.rt:20:9
 examine-requires : tie.Need-examine-requires
 examine-requires c κs = search needs
 
--- src/decoding.rt:23:9
 returns : tie.Need-returns
 returns c = refused-by _ (c .before .before .before .examine .result) (c .before .before .before .examine .ensures) (c .if1 .taken)
 
--- src/decoding.rt:27:20
 token-of-requires : tie.Need-token-of-requires
 token-of-requires c κs = search needs
 
--- src/decoding.rt:17:1
 returns-2 : tie.Need-returns-2
 returns-2 c = rw (c .token-of .ensures) (accepted-by _ (c .before .before .before .before .before .before .examine .result) (c .before .before .before .before .before .before .examine .ensures) (c .before .before .before .if1 .left))
 

@@ -4,37 +4,25 @@ use Rattle.bytecode.specs.Decode.{isClean}
 use borrow.Author.Needs.{needs}
 use Rattle.bytecode.proofs.decoding.is_clean.Statement.{statement}
 use Rattle.bytecode.proofs.decoding.is_clean.Tie as tie
-use Rattle.bytecode.proofs.decoding.is_clean.Reads as reads
-use Rattle.bytecode.proofs.decoding.is_clean.Lts as lts
-use Rattle.bytecode.proofs.layout.destination_bits.Reads as destination-bits-reads
-use Rattle.bytecode.proofs.layout.is_stray.Reads as is-stray-reads
-use Rattle.bytecode.proofs.layout.operand_bits.Reads as operand-bits-reads
 
--- src/decoding.rt:112:40
 destination-bits-requires : tie.Need-destination-bits-requires
 destination-bits-requires c κs = search needs
 
--- src/decoding.rt:112:9
 is-stray-requires : tie.Need-is-stray-requires
 is-stray-requires c κs = search needs
 
--- src/decoding.rt:113:36
 operand-bits-requires : tie.Need-operand-bits-requires
 operand-bits-requires c κs = search needs
 
--- src/decoding.rt:113:9
 is-stray-requires-2 : tie.Need-is-stray-requires-2
 is-stray-requires-2 c κs = search needs
 
--- src/decoding.rt:114:36
 operand-bits-requires-2 : tie.Need-operand-bits-requires-2
 operand-bits-requires-2 c κs = search needs
 
--- src/decoding.rt:114:9
 is-stray-requires-3 : tie.Need-is-stray-requires-3
 is-stray-requires-3 c κs = search needs
 
--- src/decoding.rt:107:1
 returns : tie.Need-returns
 unfolding isClean
 returns c =

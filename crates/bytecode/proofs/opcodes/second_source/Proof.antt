@@ -4,19 +4,13 @@ use borrow.Author.Tests.{eq-eqb, ne-eqb}
 use borrow.Author.Needs.{needs}
 use Rattle.bytecode.proofs.opcodes.second_source.Statement.{statement}
 use Rattle.bytecode.proofs.opcodes.second_source.Tie as tie
-use Rattle.bytecode.proofs.opcodes.second_source.Reads as reads
-use Rattle.bytecode.proofs.opcodes.second_source.Lts as lts
-use Rattle.bytecode.proofs.opcodes.source.Reads as source-reads
 
--- src/opcodes.rt:70:9
 returns : tie.Need-returns
 returns c = simp (eq-eqb _ _ (c .if1 .taken))
 
--- src/opcodes.rt:72:5
 source-requires : tie.Need-source-requires
 source-requires c κs = search needs
 
--- src/opcodes.rt:66:1
 returns-2 : tie.Need-returns-2
 returns-2 c = simp (ne-eqb _ _ (c .before .if1 .left), c .source .ensures)
 

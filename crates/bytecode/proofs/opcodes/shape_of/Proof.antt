@@ -5,40 +5,28 @@ use Rattle.bytecode.proofs.ShapeSets.{sets-are, past-sets}
 use borrow.Author.Needs.{needs}
 use Rattle.bytecode.proofs.opcodes.shape_of.Statement.{statement}
 use Rattle.bytecode.proofs.opcodes.shape_of.Tie as tie
-use Rattle.bytecode.proofs.opcodes.shape_of.Reads as reads
-use Rattle.bytecode.proofs.opcodes.shape_of.Lts as lts
-use Rattle.bytecode.proofs.opcodes.second_source.Reads as second-source-reads
-use Rattle.bytecode.proofs.opcodes.source.Reads as source-reads
 
--- src/opcodes.rt:36:9
 returns : tie.Need-returns
 returns c = past-sets _ (c .if1 .taken)
 
--- src/opcodes.rt:43:19
 shr-listed : tie.Need-shr-listed
 shr-listed c = search needs
 
--- src/opcodes.rt:44:24
 shr-destination : tie.Need-shr-destination
 shr-destination c = search needs
 
--- src/opcodes.rt:45:27
 shr-source : tie.Need-shr-source
 shr-source c = search needs
 
--- src/opcodes.rt:45:9
 source-requires : tie.Need-source-requires
 source-requires c κs = search needs
 
--- src/opcodes.rt:46:42
 shr-second-source : tie.Need-shr-second-source
 shr-second-source c = search needs
 
--- src/opcodes.rt:46:9
 second-source-requires : tie.Need-second-source-requires
 second-source-requires c κs = search needs
 
--- src/opcodes.rt:32:1
 returns-2 : tie.Need-returns-2
 returns-2 c = simp (c .second-source .ensures, c .before .source .ensures) (sets-are _ (c .before .before .if1 .left))
 

@@ -6,29 +6,19 @@ use Rattle.bytecode.proofs.SourceKinds.{indexed-source, direct-source}
 use borrow.Author.Needs.{needs}
 use Rattle.bytecode.proofs.unpack.unpack_source.Statement.{statement}
 use Rattle.bytecode.proofs.unpack.unpack_source.Tie as tie
-use Rattle.bytecode.proofs.unpack.unpack_source.Reads as reads
-use Rattle.bytecode.proofs.unpack.unpack_source.Lts as lts
-use Rattle.bytecode.proofs.unpack.is_indexed.Reads as is-indexed-reads
-use Rattle.bytecode.proofs.unpack.unpack_direct.Reads as unpack-direct-reads
-use Rattle.bytecode.proofs.unpack.unpack_indexed.Reads as unpack-indexed-reads
 
--- src/unpack.rt:48:8
 is-indexed-requires : tie.Need-is-indexed-requires
 is-indexed-requires c κs = search needs
 
--- src/unpack.rt:49:33
 unpack-indexed-requires : tie.Need-unpack-indexed-requires
 unpack-indexed-requires c κs = search needs
 
--- src/unpack.rt:49:9
 returns : tie.Need-returns
 returns c = ap Indexed (c .unpack-indexed .ensures) ∙ sym (indexed-source _ (sym (c .before .before .is-indexed .ensures) ∙ c .before .if1 .taken))
 
--- src/unpack.rt:51:21
 unpack-direct-requires : tie.Need-unpack-direct-requires
 unpack-direct-requires c κs = search needs
 
--- src/unpack.rt:45:1
 returns-2 : tie.Need-returns-2
 returns-2 c = ap Direct (c .unpack-direct .ensures) ∙ sym (direct-source _ (sym (c .before .before .is-indexed .ensures) ∙ c .before .if1 .left))
 

@@ -1,5 +1,9 @@
 -- `access1` meets its contract.
 -- Assumes nothing.
+use Rattle.bytecode.specs.Records.{destinationOf, operandOf, tokenOf}
+use Rattle.paths.specs.Reads.{maskOf, dimensionOf}
+use Rattle.paths.specs.Access.{namedSet, selectorSet1}
+use Rattle.paths.proofs.AccessFields.{any-swizzle}
 use borrow.Author.Needs.{needs}
 use Rattle.paths.proofs.access.access1.Statement.{statement}
 use Rattle.paths.proofs.access.access1.Tie as tie
@@ -23,7 +27,11 @@ through-requires : tie.Need-through-requires
 through-requires c κs = search needs
 
 returns : tie.Need-returns
+unfolding tokenOf
 returns c =
+    let a = c .before .before .before .before .before .before .args in
+    let mask = maskOf (destinationOf (a .shape .destination) (a .f .destination)) in
+    let set = selectorSet1 (a .f .opcode) mask (dimensionOf (operandOf (a .shape .source2) (a .f .source2))) in
     let selectors = c .before .before .before in
     simp (
       selectors .before .before .mask-of .ensures,
@@ -33,6 +41,7 @@ returns c =
       c .before .named .ensures,
       c .through .ensures,
     )
+    (any-swizzle (a .shape .source1) (a .f .source1) 1 (λ z. namedSet z set))
 
 pub access1-spec : {M : Type 1} → statement M
 access1-spec =

@@ -1,5 +1,9 @@
 -- `access2` meets its contract.
 -- Assumes nothing.
+use Rattle.bytecode.specs.Records.{destinationOf, tokenOf}
+use Rattle.paths.specs.Reads.{maskOf, rowCount2}
+use Rattle.paths.specs.Access.{readSet2}
+use Rattle.paths.proofs.AccessFields.{any-swizzle}
 use borrow.Author.Needs.{needs}
 use Rattle.paths.proofs.access.access2.Statement.{statement}
 use Rattle.paths.proofs.access.access2.Tie as tie
@@ -20,7 +24,10 @@ through-requires : tie.Need-through-requires
 through-requires c κs = search needs
 
 returns : tie.Need-returns
+unfolding tokenOf
 returns c =
+    let a = c .before .before .before .before .before .args in
+    let mask = maskOf (destinationOf (a .shape .destination) (a .f .destination)) in
     let components = c .before .before in
     simp (
       components .before .before .mask-of .ensures,
@@ -29,6 +36,7 @@ returns c =
       c .before .rows2 .ensures,
       c .through .ensures,
     )
+    (any-swizzle (a .shape .source2) (a .f .source2) (rowCount2 (a .f .opcode)) (readSet2 (a .f .opcode) mask))
 
 pub access2-spec : {M : Type 1} → statement M
 access2-spec =

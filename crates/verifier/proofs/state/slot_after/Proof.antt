@@ -4,23 +4,16 @@ use borrow.Author.Tests.{lt-ltb, le-ltb}
 use borrow.Author.Needs.{needs}
 use Rattle.verifier.proofs.state.slot_after.Statement.{statement}
 use Rattle.verifier.proofs.state.slot_after.Tie as tie
-use Rattle.verifier.proofs.state.slot_after.Reads as reads
-use Rattle.verifier.proofs.state.slot_after.Lts as lts
-use Rattle.verifier.proofs.state.slot.Reads as slot-reads
 
--- src/state.rt:95:9
 slot-requires : tie.Need-slot-requires
 slot-requires c κs = search needs
 
--- src/state.rt:95:9
 returns : tie.Need-returns
 returns c = rw (lt-ltb _ _ (c .before .if1 .taken)) (c .slot .ensures)
 
--- src/state.rt:97:5
 slot-requires-2 : tie.Need-slot-requires-2
 slot-requires-2 c κs = search needs
 
--- src/state.rt:91:1
 returns-2 : tie.Need-returns-2
 returns-2 c = rw (le-ltb _ _ (c .before .if1 .left)) (c .slot2 .ensures)
 

@@ -3,38 +3,28 @@
 use borrow.Author.Needs.{needs}
 use Rattle.verifier.proofs.state.Top.is_misplaced.Statement.{statement}
 use Rattle.verifier.proofs.state.Top.is_misplaced.Tie as tie
-use Rattle.verifier.proofs.state.Top.is_misplaced.Reads as reads
-use Rattle.verifier.proofs.state.Top.is_misplaced.Lts as lts
 
--- src/state.rt:109:28
 enum-told : tie.Need-enum-told
 enum-told c = search needs
 
--- src/state.rt:110:29
 enum-told-2 : tie.Need-enum-told-2
 enum-told-2 c = search needs
 
--- src/state.rt:111:26
 enum-told-3 : tie.Need-enum-told-3
 enum-told-3 c = search needs
 
--- src/state.rt:112:26
 enum-told-4 : tie.Need-enum-told-4
 enum-told-4 c = search needs
 
--- src/state.rt:102:5
 returns : tie.Need-returns
 returns c = search needs
 
--- src/state.rt:102:5
 returns-2 : tie.Need-returns-2
 returns-2 c = simp (c .enum-told2 .given .1)
 
--- src/state.rt:102:5
 returns-3 : tie.Need-returns-3
 returns-3 c = simp (c .before .enum-told3 .given .1)
 
--- src/state.rt:102:5
 returns-4 : tie.Need-returns-4
 returns-4 c = simp (c .enum-told4 .given .1)
 

@@ -5,20 +5,14 @@ use Rattle.verifier.specs.State.{joined}
 use borrow.Author.Needs.{needs}
 use Rattle.verifier.proofs.state.Top.joined.Statement.{statement}
 use Rattle.verifier.proofs.state.Top.joined.Tie as tie
-use Rattle.verifier.proofs.state.Top.joined.Reads as reads
-use Rattle.verifier.proofs.state.Top.joined.Lts as lts
-use Rattle.paths.proofs.written.join.Reads as join-reads
 
--- src/state.rt:150:13
 returns : tie.Need-returns
 unfolding joined
 returns c = simp (lt-ltb _ _ (c .if1 .taken))
 
--- src/state.rt:155:13
 join-requires : tie.Need-join-requires
 join-requires c κs = search needs
 
--- src/state.rt:145:5
 returns-2 : tie.Need-returns-2
 unfolding joined
 returns-2 c = simp (le-ltb _ _ (c .before .before .before .before .if1 .left), c .join .ensures)

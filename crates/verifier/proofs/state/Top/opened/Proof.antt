@@ -5,19 +5,14 @@ use Rattle.verifier.specs.State.{opened}
 use borrow.Author.Needs.{needs}
 use Rattle.verifier.proofs.state.Top.opened.Statement.{statement}
 use Rattle.verifier.proofs.state.Top.opened.Tie as tie
-use Rattle.verifier.proofs.state.Top.opened.Reads as reads
-use Rattle.verifier.proofs.state.Top.opened.Lts as lts
 
--- src/state.rt:180:13
 returns : tie.Need-returns
 unfolding opened
 returns c = simp (le-leb _ _ (c .if1 .taken))
 
--- src/state.rt:185:20
 add-t6 : tie.Need-add-t6
 add-t6 c = search needs
 
--- src/state.rt:175:5
 returns-2 : tie.Need-returns-2
 unfolding opened
 returns-2 c = simp (lt-leb _ _ (c .before .if1 .left))
