@@ -1,6 +1,7 @@
 // The first of faults 9 to 19 of one token; number 0 where there is none.
 ghost use mathlib.Core.Bool.{cond};
 ghost use mathlib.Core.Path.{_≡_};
+ghost use Rattle.bytecode.specs.Records.{sourceOf, operandOf, tokenOf};
 ghost use Rattle.bytecode.specs.Decode.{refusal as refused};
 ghost use Rattle.verifier.specs.Profile.{countIn};
 ghost use Rattle.verifier.specs.Order.{firstFault, sourceRules};
@@ -8,38 +9,45 @@ ghost use Rattle.verifier.specs.Faults.{numberOf, swizzleWrong, sourcesF
 use crate::profile::Profile;
 use crate::rules;
 use bytecode::answers::Refusal;
-use bytecode::record::Operand;
-use bytecode::record::Token;
+use bytecode::fields::Fields;
+use bytecode::opcodes::OperandShape;
+use bytecode::opcodes::Shape;
 use paths::access;
 
-// 10 and 11, then 14 to 19, of a record.
-pub(crate) fn own_fault(profile: Profile, token: usize, t: Token) -> Refusal
-    ensures { λ r. ⌜ r ≡ ownFault profile token t ⌝ }
+// 10 and 11, then 14 to 19, of a record, from the fields that make it.
+pub(crate) fn own_fault(profile: Profile, token: usize, shape: Shape, f: Fields) -> Refusal
+    ensures { λ r. ⌜ r ≡ ownFault profile token (tokenOf shape f) ⌝ }
 {
-    if rules::opcode_too_new(profile.edition, t.opcode) {
+    if rules::opcode_too_new(profile.edition, f.opcode) {
         return refusal(10, token, 0);
     }
-    if rules::opcode_not_for_stage(profile.stage, t.opcode) {
+    if rules::opcode_not_for_stage(profile.stage, f.opcode) {
         return refusal(11, token, 0);
     }
-    record_fault(profile, token, t)
+    record_fault(profile, token, shape, f)
 }
 
 // 14 to 19 of a record.
-fn record_fault(profile: Profile, token: usize, t: Token) -> Refusal
-    ensures { λ r. ⌜ r ≡ recordFault profile token t ⌝ }
+fn record_fault(profile: Profile, token: usize, shape: Shape, f: Fields) -> Refusal
+    ensures { λ r. ⌜ r ≡ recordFault profile token (tokenOf shape f) ⌝ }
 {
-    let destination = t.destination;
-    if rules::destination_wrong(profile, destination) {
+    if rules::destination_wrong(profile, shape.destination, f.destination) {
         return refusal(14, token, 1);
     }
-    if rules::mask_wrong(t.opcode, destination) {
+    if rules::mask_wrong(f.opcode, shape.destination, f.destination) {
         return refusal(15, token, 1);
     }
-    let source1 = t.source1;
-    let first = source_fault(profile, false, t.opcode, 1, source1);
-    let source2 = t.source2;
-    let second = source_fault(profile, true, t.opcode, access::rows2(t.opcode), source2);
+    let shape1 = shape.source1;
+    let first = operand_fault(profile, false, f.opcode, 1, shape1, f.source1);
+    let shape2 = shape.source2;
+    let second = operand_fault(
+        profile,
+        true,
+        f.opcode,
+        access::rows2(f.opcode),
+        shape2,
+        f.source2,
+    );
     sources_fault(token, first, second)
 }
 
@@ -56,26 +64,38 @@ fn sources_fault(token: usize, first: u8, second: u8) -> Refusal
     refusal(0, 0, 0)
 }
 
-// The number of the first of 16 to 19 of a source, or 0.
-fn source_fault(profile: Profile, second: bool, opcode: u32, rows: u8, operand: Operand) -> u8
-    ensures { λ r. ⌜ r ≡ numberOf (firstFault (sourceRules (countIn profile) (profile .stage) rows (swizzleWrong second opcode) 0 operand)) ⌝ }
+// The number of the first of 16 to 19 of an operand, or 0.
+fn operand_fault(
+    profile: Profile,
+    second: bool,
+    opcode: u32,
+    rows: u8,
+    shape: OperandShape,
+    field: u64,
+) -> u8
+    ensures { λ r. ⌜ r ≡ numberOf (firstFault (sourceRules (countIn profile) (profile .stage) rows (swizzleWrong second opcode) 0 (operandOf shape field))) ⌝ }
 {
-    match operand {
-        Operand::Unused => 0,
-        Operand::Direct(s) => first_of(
-            rules::direct_wrong(profile, rows, s),
-            17,
-            swizzle_wrong(second, opcode, s.swizzle),
-            18,
-        ),
-        Operand::Indexed(s) => first_of(
-            rules::indexed_wrong(profile, rows, s),
-            16,
-            swizzle_wrong(second, opcode, s.swizzle),
-            18,
-        ),
-        Operand::Sampler(s) => first_of(rules::sampler_wrong(profile, s), 19, false, 0),
+    match shape {
+        OperandShape::Unused => 0,
+        OperandShape::Source => source_fault(profile, second, opcode, rows, field),
+        OperandShape::Sampler => {
+            let wrong = rules::sampler_wrong(profile, bytecode::unpack_sampler(field));
+            first_of(wrong, 19, false, 0)
+        }
     }
+}
+
+fn source_fault(profile: Profile, second: bool, opcode: u32, rows: u8, field: u64) -> u8
+    ensures { λ r. ⌜ r ≡ numberOf (firstFault (sourceRules (countIn profile) (profile .stage) rows (swizzleWrong second opcode) 0 (sourceOf field))) ⌝ }
+{
+    if bytecode::is_indexed(field) {
+        let s = bytecode::unpack_indexed(field);
+        let wrong = rules::indexed_wrong(profile, rows, s);
+        return first_of(wrong, 16, swizzle_wrong(second, opcode, s.swizzle), 18);
+    }
+    let s = bytecode::unpack_direct(field);
+    let wrong = rules::direct_wrong(profile, rows, s);
+    first_of(wrong, 17, swizzle_wrong(second, opcode, s.swizzle), 18)
 }
 
 fn first_of(a: bool, x: u8, b: bool, y: u8) -> u8

@@ -1,10 +1,10 @@
 // Rules 10, 11 and 14 to 19 of one token.
 ghost use mathlib.Core.Path.{_≡_};
+ghost use Rattle.bytecode.specs.Records.{destinationOf};
 ghost use Rattle.verifier.specs.Profile.{countIn};
 ghost use Rattle.verifier.specs.Rules.{opcodeTooNew, opcodeNotForStage, isThreeWide, destinationWrong, maskWrong, indexedWrong, directWrong, selectorsDiffer, matrixSwizzled, samplerWrong};
 use crate::profile;
 use crate::profile::Profile;
-use bytecode::record::Destination;
 use bytecode::record::DirectSource;
 use bytecode::record::IndexedSource;
 use bytecode::record::Sampler;
@@ -24,27 +24,27 @@ pub(crate) fn opcode_not_for_stage(stage: u8, opcode: u32) -> bool
 }
 
 // 14
-pub(crate) fn destination_wrong(profile: Profile, destination: Destination) -> bool
-    ensures { λ r. ⌜ r ≡ destinationWrong (countIn profile) (profile .stage) destination ⌝ }
+pub(crate) fn destination_wrong(profile: Profile, used: bool, field: u64) -> bool
+    ensures { λ r. ⌜ r ≡ destinationWrong (countIn profile) (profile .stage) (destinationOf used field) ⌝ }
 {
-    match destination {
-        Destination::Unused => false,
-        Destination::Masked(r) => {
-            let writable = registers::is_writable(r.kind, profile.stage);
-            let count = profile::count_of(profile, r.kind);
-            !writable | (count <= r.number)
-        }
+    if used {
+        let r = bytecode::unpack_register(field);
+        let writable = registers::is_writable(r.kind, profile.stage);
+        let count = profile::count_of(profile, r.kind);
+        return !writable | (count <= r.number);
     }
+    false
 }
 
 // 15
-pub(crate) fn mask_wrong(opcode: u32, destination: Destination) -> bool
-    ensures { λ r. ⌜ r ≡ maskWrong opcode destination ⌝ }
+pub(crate) fn mask_wrong(opcode: u32, used: bool, field: u64) -> bool
+    ensures { λ r. ⌜ r ≡ maskWrong opcode (destinationOf used field) ⌝ }
 {
-    match destination {
-        Destination::Unused => false,
-        Destination::Masked(r) => (r.mask == 0) | (is_three_wide(opcode) & (r.mask / 8 % 2 == 1)),
+    if used {
+        let r = bytecode::unpack_register(field);
+        return (r.mask == 0) | (is_three_wide(opcode) & (r.mask / 8 % 2 == 1));
     }
+    false
 }
 
 // nrm, crs, m33 and m34 have no fourth component.

@@ -2,8 +2,8 @@
 // way through it. What a token can touch of it goes in by value, and the next comes back.
 ghost use mathlib.Core.Path.{_≡_};
 ghost use Prim.Native.Nat.{_<_};
+ghost use Rattle.bytecode.specs.Records.{destinationOf};
 ghost use Rattle.verifier.specs.State.{flowOfCode, startState, slotOf, slotAfter, isMisplaced, exchanged as exchangedTop, joined as joinedTop, metTop, opened as openedTop, partedTop, marked as markedTop, wroteTop};
-use bytecode::record::Destination;
 use bytecode::record::MaskedRegister;
 use paths::written;
 use paths::written::Written;
@@ -192,13 +192,13 @@ impl Top {
     }
 
     // With the components that a token writes, where its destination is a temporary register.
-    pub(crate) fn wrote(self, destination: Destination) -> Top
-        ensures { λ r. ⌜ r ≡ wroteTop self destination ⌝ }
+    pub(crate) fn wrote(self, used: bool, field: u64) -> Top
+        ensures { λ r. ⌜ r ≡ wroteTop self (destinationOf used field) ⌝ }
     {
-        match destination {
-            Destination::Unused => self,
-            Destination::Masked(r) => self.marked(r),
+        if used {
+            return self.marked(bytecode::unpack_register(field));
         }
+        self
     }
 
     fn marked(self, register: MaskedRegister) -> Top

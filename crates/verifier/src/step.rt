@@ -1,14 +1,15 @@
 // One token: the first fault that it has, or the next state.
 ghost use mathlib.Core.Path.{_≡_};
 ghost use lib.ListN.{getD};
+ghost use Rattle.bytecode.specs.Records.{tokenOf};
 ghost use Rattle.verifier.specs.Step.{stepOf, takeOf, followOf, lacksAccess};
 use crate::faults;
 use crate::profile::Profile;
 use crate::state;
 use crate::state::Top;
-use bytecode::answers::Decoded;
 use bytecode::answers::Refusal;
-use bytecode::record::Token;
+use bytecode::fields::Fields;
+use bytecode::opcodes::Shape;
 use paths::access;
 use paths::access::Access;
 use paths::written;
@@ -25,48 +26,50 @@ impl Top {
     pub(crate) fn step(self, profile: Profile, token: usize, bytes: &[u8]) -> Stepped
         ensures { λ r. ⌜ r ≡ stepOf self profile token (now (bytes .entry)) ⌝ }
     {
-        match bytecode::decode(bytes) {
-            Decoded::Token(t) => self.take(profile, token, t),
-            Decoded::Refused(r) => {
-                let fault = faults::undecoded_fault(profile, token, r, first_byte(bytes));
-                Stepped { fault, top: self }
-            }
+        let found = bytecode::examine(bytes);
+        let refused = found.fault;
+        if refused.number != 0 {
+            let fault = faults::undecoded_fault(profile, token, refused, first_byte(bytes));
+            return Stepped { fault, top: self };
         }
+        let shape = found.shape;
+        let f = found.fields;
+        self.take(profile, token, shape, f)
     }
 
     // Faults 10 to 19 of a record come before those of branches and paths.
-    fn take(self, profile: Profile, token: usize, t: Token) -> Stepped
-        ensures { λ r. ⌜ r ≡ takeOf self profile token t ⌝ }
+    fn take(self, profile: Profile, token: usize, shape: Shape, f: Fields) -> Stepped
+        ensures { λ r. ⌜ r ≡ takeOf self profile token (tokenOf shape f) ⌝ }
     {
-        let fault = faults::own_fault(profile, token, t);
+        let fault = faults::own_fault(profile, token, shape, f);
         if fault.number != 0 {
             return Stepped { fault, top: self };
         }
-        self.follow(token, t)
+        self.follow(token, shape, f)
     }
 
-    // 20, 21, and the next state.
-    fn follow(self, token: usize, t: Token) -> Stepped
-        ensures { λ r. ⌜ r ≡ followOf self token t ⌝ }
+    // 20, 21, and the next top.
+    fn follow(self, token: usize, shape: Shape, f: Fields) -> Stepped
+        ensures { λ r. ⌜ r ≡ followOf self token (tokenOf shape f) ⌝ }
     {
-        let flow = state::flow_of(t.opcode);
+        let flow = state::flow_of(f.opcode);
         if self.is_misplaced(flow) {
             let fault = faults::refusal(20, token, 0);
             return Stepped { fault, top: self };
         }
         let met = self.met(flow);
         let current = met.current;
-        if lacks_access(current, access::access1(t)) {
+        if lacks_access(current, access::access1(shape, f)) {
             let fault = faults::refusal(21, token, 2);
             return Stepped { fault, top: self };
         }
-        if lacks_access(current, access::access2(t)) {
+        if lacks_access(current, access::access2(shape, f)) {
             let fault = faults::refusal(21, token, 3);
             return Stepped { fault, top: self };
         }
-        let destination = t.destination;
         let fault = faults::refusal(0, 0, 0);
-        let next = met.wrote(destination).parted(flow, token);
+        let next = met.wrote(shape.destination, f.destination)
+            .parted(flow, token);
         Stepped { fault, top: next }
     }
 }

@@ -1,5 +1,6 @@
 -- `own_fault` meets its contract.
 -- Assumes nothing.
+use Rattle.bytecode.specs.Records.{tokenOf}
 use Rattle.verifier.specs.Faults.{ownFault}
 use borrow.Author.Needs.{needs}
 use Rattle.verifier.proofs.faults.own_fault.Statement.{statement}
@@ -12,7 +13,7 @@ refusal-requires : tie.Need-refusal-requires
 refusal-requires c κs = search needs
 
 returns : tie.Need-returns
-unfolding ownFault
+unfolding ownFault tokenOf
 returns c = simp (← c .before .before .opcode-too-new .ensures, c .before .if1 .taken, c .refusal .ensures)
 
 opcode-not-for-stage-requires : tie.Need-opcode-not-for-stage-requires
@@ -22,7 +23,7 @@ refusal-requires-2 : tie.Need-refusal-requires-2
 refusal-requires-2 c κs = search needs
 
 returns-2 : tie.Need-returns-2
-unfolding ownFault
+unfolding ownFault tokenOf
 returns-2 c =
     simp (
       ← c .before .before .before .before .opcode-too-new .ensures,
@@ -36,7 +37,7 @@ record-fault-requires : tie.Need-record-fault-requires
 record-fault-requires c κs = search needs
 
 returns-3 : tie.Need-returns-3
-unfolding ownFault
+unfolding ownFault tokenOf
 returns-3 c =
     simp (
       ← c .before .before .before .before .opcode-too-new .ensures,

@@ -1,5 +1,6 @@
 -- `record_fault` meets its contract.
 -- Assumes nothing.
+use Rattle.bytecode.specs.Records.{tokenOf}
 use Rattle.verifier.proofs.FaultLaws.{staged}
 use borrow.Author.Needs.{needs}
 use Rattle.verifier.proofs.faults.record_fault.Statement.{statement}
@@ -12,10 +13,11 @@ refusal-requires : tie.Need-refusal-requires
 refusal-requires c κs = search needs
 
 returns : tie.Need-returns
+unfolding tokenOf
 returns c =
     let a = c .before .before .before .args in
     simp (
-      staged (a .profile) (a .token) (a .t),
+      staged (a .profile) (a .token) (tokenOf (a .shape) (a .f)),
       ← c .before .before .destination-wrong .ensures,
       c .before .if1 .taken,
       c .refusal .ensures,
@@ -28,10 +30,11 @@ refusal-requires-2 : tie.Need-refusal-requires-2
 refusal-requires-2 c κs = search needs
 
 returns-2 : tie.Need-returns-2
+unfolding tokenOf
 returns-2 c =
     let a = c .before .before .before .before .before .args in
     simp (
-      staged (a .profile) (a .token) (a .t),
+      staged (a .profile) (a .token) (tokenOf (a .shape) (a .f)),
       ← c .before .before .before .before .destination-wrong .ensures,
       c .before .before .before .if1 .left,
       ← c .before .before .mask-wrong .ensures,
@@ -39,30 +42,31 @@ returns-2 c =
       c .refusal2 .ensures,
     )
 
-source-fault-requires : tie.Need-source-fault-requires
-source-fault-requires c κs = search needs
+operand-fault-requires : tie.Need-operand-fault-requires
+operand-fault-requires c κs = search needs
 
 rows2-requires : tie.Need-rows2-requires
 rows2-requires c κs = search needs
 
-source-fault-requires-2 : tie.Need-source-fault-requires-2
-source-fault-requires-2 c κs = search needs
+operand-fault-requires-2 : tie.Need-operand-fault-requires-2
+operand-fault-requires-2 c κs = search needs
 
 sources-fault-requires : tie.Need-sources-fault-requires
 sources-fault-requires c κs = search needs
 
 returns-3 : tie.Need-returns-3
+unfolding tokenOf
 returns-3 c =
     let a = c .before .before .before .before .before .before .before .before .args in
     simp (
-      staged (a .profile) (a .token) (a .t),
+      staged (a .profile) (a .token) (tokenOf (a .shape) (a .f)),
       ← c .before .before .before .before .before .before .before .destination-wrong .ensures,
       c .before .before .before .before .before .before .if1 .left,
       ← c .before .before .before .before .before .mask-wrong .ensures,
       c .before .before .before .before .if2 .left,
-      ← c .before .before .before .source-fault .ensures,
+      ← c .before .before .before .operand-fault .ensures,
       ← c .before .before .rows2 .ensures,
-      ← c .before .source-fault2 .ensures,
+      ← c .before .operand-fault2 .ensures,
       c .sources-fault .ensures,
     )
 
@@ -76,8 +80,8 @@ record-fault-spec =
     mask-wrong-requires
     refusal-requires-2
     returns-2
-    source-fault-requires
+    operand-fault-requires
     rows2-requires
-    source-fault-requires-2
+    operand-fault-requires-2
     sources-fault-requires
     returns-3)

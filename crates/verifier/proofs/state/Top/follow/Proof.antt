@@ -1,5 +1,6 @@
 -- `follow` meets its contract.
 -- Assumes nothing.
+use Rattle.bytecode.specs.Records.{tokenOf}
 use Rattle.verifier.specs.Step.{followOf}
 use borrow.Author.Needs.{needs}
 use Rattle.verifier.proofs.state.Top.follow.Statement.{statement}
@@ -15,7 +16,7 @@ refusal-requires : tie.Need-refusal-requires
 refusal-requires c κs = search needs
 
 returns : tie.Need-returns
-unfolding followOf
+unfolding followOf tokenOf
 returns c =
     simp (
       ← c .before .before .before .flow-of .ensures,
@@ -37,7 +38,7 @@ refusal-requires-2 : tie.Need-refusal-requires-2
 refusal-requires-2 c κs = search needs
 
 returns-2 : tie.Need-returns-2
-unfolding followOf
+unfolding followOf tokenOf
 returns-2 c =
     simp (
       ← c .before .before .before .before .before .before .before .before .flow-of .ensures,
@@ -60,7 +61,7 @@ refusal-requires-3 : tie.Need-refusal-requires-3
 refusal-requires-3 c κs = search needs
 
 returns-3 : tie.Need-returns-3
-unfolding followOf
+unfolding followOf tokenOf
 returns-3 c =
     simp (
       ← c .before .before .before .before .before .before .before .before .before .before .before .flow-of .ensures,
@@ -86,7 +87,7 @@ parted-requires : tie.Need-parted-requires
 parted-requires c κs = search needs
 
 returns-4 : tie.Need-returns-4
-unfolding followOf
+unfolding followOf tokenOf
 returns-4 c =
     simp (
       ← c .before .before .before .before .before .before .before .before .before .before .before .before .before .flow-of .ensures,

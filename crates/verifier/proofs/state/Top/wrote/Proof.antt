@@ -4,21 +4,17 @@ use borrow.Author.Needs.{needs}
 use Rattle.verifier.proofs.state.Top.wrote.Statement.{statement}
 use Rattle.verifier.proofs.state.Top.wrote.Tie as tie
 
-enum-told : tie.Need-enum-told
-enum-told c = search needs
-
-enum-known-destination : tie.Need-enum-known-destination
-enum-known-destination c = search needs
+unpack-register-requires : tie.Need-unpack-register-requires
+unpack-register-requires c κs = search needs
 
 marked-requires : tie.Need-marked-requires
 marked-requires c κs = search needs
 
 returns : tie.Need-returns
-returns c = search needs
+returns c = simp (c .before .before .if1 .taken, c .before .unpack-register .ensures, c .marked .ensures)
 
 returns-2 : tie.Need-returns-2
-returns-2 c = simp (c .before .before .destination .given .1, c .marked .ensures)
+returns-2 c = search needs
 
 pub wrote-spec : {M : Type 1} → statement M
-wrote-spec =
-    tie.close (tie.spec enum-told enum-known-destination marked-requires returns returns-2)
+wrote-spec = tie.close (tie.spec unpack-register-requires marked-requires returns returns-2)
