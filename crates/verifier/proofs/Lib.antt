@@ -7,6 +7,7 @@ pub mod HeaderLaw
 pub mod LoopLaw
 pub mod NextState
 pub mod OwnFault
+pub mod Packed
 pub mod Stack
 pub mod StepLaw
 pub mod TokenLaw

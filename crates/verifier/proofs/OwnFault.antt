@@ -29,25 +29,8 @@ use Rattle.verifier.specs.Rules.{opcodeTooNew, opcodeNotForStage, select
 use Rattle.verifier.specs.Profile.{profileOf, countIn}
 use Rattle.verifier.specs.Order.{Rule, rule, firstFault, sourceRules, recordRules, tokenRules, recordOf}
 use Rattle.verifier.specs.Faults.{refusalAt, recordFault, ownFault, undecodedFault}
+use Rattle.verifier.proofs.Packed.{counts-are}
 use Rattle.verifier.proofs.FaultLaws.{orElse, first-append}
-
--- ---- the counts of a profile are those of the table
-
-count-at : (edition stage k : ℕ) → countIn (profileOf edition stage) k ≡ countOf k edition stage
-unfolding countIn
-count-at edition stage zero = refl
-count-at edition stage (suc zero) = refl
-count-at edition stage (suc (suc zero)) = refl
-count-at edition stage (suc (suc (suc zero))) = refl
-count-at edition stage (suc (suc (suc (suc zero)))) = refl
-count-at edition stage (suc (suc (suc (suc (suc zero))))) = refl
-count-at edition stage (suc (suc (suc (suc (suc (suc zero)))))) = refl
-count-at edition stage (suc (suc (suc (suc (suc (suc (suc k))))))) =
-    rw (le-leb 7 (suc (suc (suc (suc (suc (suc (suc k))))))) (omega arith))
-    (sym (outside-kind (suc (suc (suc (suc (suc (suc (suc k))))))) edition stage (omega arith)))
-
-pub counts-are : (edition stage : ℕ) → countIn (profileOf edition stage) ≡ (λ k. countOf k edition stage)
-counts-are edition stage = fun-ext (count-at edition stage)
 
 -- ---- numbers 9 to 19
 
