@@ -78,7 +78,10 @@ impl Top {
 fn lacks_access(current: Written, a: Access) -> bool
     ensures { λ r. ⌜ r ≡ lacksAccess current a ⌝ }
 {
-    (a.kind == 2) & written::lacks(current, a.register, a.rows, a.components)
+    if a.kind != 2 {
+        return false;
+    }
+    written::lacks(current, a.register, a.rows, a.components)
 }
 
 fn first_byte(bytes: &[u8]) -> u8
