@@ -1,64 +1,45 @@
 -- No line is refused on an accepted program: each of its tokens decodes to a record that has a line, at a depth of at most 16.
 -- Assumes nothing.
 use Prim.Native.Nat.{ℕ, zero, suc, _+_, _-_, _≤_, _<_}
-use mathlib.Core.Bool.{Bool, true, false, not, cond, _&&_, _||_, true≢false}
+use mathlib.Core.Bool.{Bool, true, false, not, _&&_, _||_, true≢false}
 use mathlib.Core.List.{List, [], _∷_, _++_}
-use mathlib.Core.Option.{Option, none, some, Option·some-ne-none}
-use mathlib.Core.Path.{_≡_, refl, _∙_, sym, ap, subst}
+use mathlib.Core.Path.{_≡_, refl, _∙_, sym, subst}
 use native.Mathlib.Decide.{decLt}
 use native.Mathlib.Omega.{arith}
 use lib.Dec.{eqb, ltb, leb}
-use lib.ListN.{length, length-take, length-drop}
+use lib.ListN.{length}
 use borrow.Author.Tests.{ne-eqb, le-leb, ltb-false, leb-false, eqb-true, not-false}
 use Rattle.bytecode.specs.Opcodes.{shapeOf}
 use Rattle.bytecode.specs.Fields.{fieldsOf}
 use Rattle.bytecode.specs.Records.{destinationOf, operandOf, tokenOf}
-use Rattle.bytecode.specs.Decode.{tokenFault, decodeOf}
 use Rattle.bytecode.specs.Encode.{destinationFits, operandFits, isEncodable}
 use Rattle.bytecode.specs.declared.opcodes.OperandShape.{OperandShape}
 use Rattle.bytecode.specs.declared.opcodes.OperandShape.the-variants.{Unused as NoField, Source as SourceField, Sampler as SamplerField}
-use Rattle.bytecode.specs.declared.answers.Decoded.the-variants.{Token as Decodes}
 use Rattle.bytecode.specs.declared.record.Destination.{Destination}
 use Rattle.bytecode.specs.declared.record.Destination.the-variants.{Unused as NoDestination, Masked}
 use Rattle.bytecode.specs.declared.record.Operand.{Operand}
 use Rattle.bytecode.specs.declared.record.Operand.the-variants.{Unused as NoOperand, Direct, Indexed, Sampler as Sampled}
 use Rattle.bytecode.specs.declared.record.Sampler.{Sampler}
-use Rattle.bytecode.proofs.DecodeLaws.{no-faults}
 use Rattle.bytecode.proofs.RegisterAgain.{register-fits}
 use Rattle.bytecode.proofs.SourceAgain.{source-fits}
 use Rattle.bytecode.proofs.SamplerAgain.{sampler-fits}
 use Rattle.registers.specs.Counts.{countOf}
 use Rattle.registers.specs.Uses.{isReadable, isWritable}
-use Rattle.paths.specs.Paths.{Flow, plain, opener, els, eif, source1, source2, TokenFault}
-use Rattle.paths.specs.Nesting.{Branch, branchesAfter, misplaced}
-use Rattle.paths.specs.Faults.{Answer, accepted, refused}
+use Rattle.paths.specs.Paths.{Flow, plain, opener, els, eif}
+use Rattle.paths.specs.Nesting.{Branch, branchesAfter, misplaced, misplacedFrom}
 use Rattle.paths.specs.Reads.{rowCount2}
-use Rattle.paths.specs.Check as check
-use Rattle.paths.specs.Check.{lacks, setBefore, judge, nextState, checkFrom, start, verdictOf}
 use Rattle.listing.specs.Line.{samplerHasNames, destinationHasNames, operandHasNames, isNameable}
 use Rattle.verifier.specs.Rules.{destinationWrong, samplerWrong, selectorsDiffer, matrixSwizzled, stageOf, tokenCount}
-use Rattle.verifier.specs.Order.{Rule, firstFault, headerRules, sourceRules, tokenRules, recordOf, tokenAt, pathTokenAt, tokensFrom, tokensOf}
-use Rattle.verifier.specs.Verdict.{program, answerOf, afterHeader, verdict}
+use Rattle.verifier.specs.Order.{Rule, sourceRules, tokenRules, recordOf, tokenAt, tokensFrom}
+use Rattle.verifier.specs.Verdict.{program, verdict}
 use Rattle.verifier.specs.declared.answers.Program.{Program}
-use Rattle.verifier.specs.declared.answers.Checked.{Checked}
-use Rattle.verifier.specs.declared.answers.Checked.the-variants.{Accepted, Refused}
-use Rattle.verifier.proofs.HeaderLaw.{has-header}
+use Rattle.verifier.specs.declared.answers.Checked.the-variants.{Accepted}
+use Rattle.verifier.proofs.AcceptedTokens.{is-program, header-whole, stage-known, rules-kept, well-placed, whole-tokens}
+use Rattle.verifier.proofs.FaultLaws.{AllKept}
 use Rattle.report.specs.Depth.{shownDepth, openedAfter}
-use Rattle.report.specs.Lines.{Listable}
+use Rattle.report.specs.Lines.{flowIn, Listable}
 
 -- ---- no rule is broken
-
-abbrev AllKept : List Rule → Type 0
-AllKept [] = Unit {0}
-AllKept (r ∷ rs) = (r .broken ≡ false) × AllKept rs
-
-none-broken : (rs : List Rule) → firstFault rs ≡ none → AllKept rs
-none-broken [] e = tt
-none-broken (r ∷ rs) e = go (λ k. none-broken rs k) (r .broken) refl e
-  where
-    go : (firstFault rs ≡ none → AllKept rs) → (b : Bool) → r .broken ≡ b → cond b (some (record { number = r .number; part = r .part })) (firstFault rs) ≡ none → AllKept (r ∷ rs)
-    go ih true q k = absurd (Option·some-ne-none _ k)
-    go ih false q k = (q, ih k)
 
 append-kept : (rs qs : List Rule) → AllKept (rs ++ qs) → AllKept rs × AllKept qs
 append-kept [] qs k = (tt, k)
@@ -178,14 +159,7 @@ encodable s e =
 
 -- ---- a token without faults 9 to 19
 
-module _ (count : ℕ → ℕ) (edition stage : ℕ) (s : List ℕ) (e : firstFault (tokenRules count edition stage s) ≡ none) where
-  all : AllKept (tokenRules count edition stage s)
-  all = none-broken (tokenRules count edition stage s) e
-
-  token-decodes : length s ≡ 24 → decodeOf s ≡ Decodes (recordOf s)
-  unfolding tokenFault
-  token-decodes h = sym (no-faults s h (rw (all .0, all .1 .1 .1 .0, all .1 .1 .1 .1 .0)) .answer)
-
+module _ (count : ℕ → ℕ) (edition stage : ℕ) (s : List ℕ) (all : AllKept (tokenRules count edition stage s)) where
   token-named : (depth : ℕ) → stage ≤ 1 → depth ≤ 16 → isNameable (recordOf s) stage depth ≡ true
   unfolding isNameable
   token-named depth a b =
@@ -213,67 +187,34 @@ depth-law eif (b ∷ bs) n e h = (omega (arith, h), omega arith, omega (arith, h
 
 -- ---- an accepted program
 
-abbrev IsAccepted : Answer → Type 0
-IsAccepted accepted = Unit {0}
-IsAccepted (refused number token part) = ⊥
-
-judge-accepts : (o : Option TokenFault) (stray lacks1 lacks2 : Bool) (n : ℕ) (later : Answer) → judge o stray lacks1 lacks2 n later ≡ accepted
-    → (o ≡ none) × (stray ≡ false) × (later ≡ accepted)
-judge-accepts (some f) stray lacks1 lacks2 n later e = absurd (subst IsAccepted (sym e) tt)
-judge-accepts none true lacks1 lacks2 n later e = absurd (subst IsAccepted (sym e) tt)
-judge-accepts none false true lacks2 n later e = absurd (subst IsAccepted (sym e) tt)
-judge-accepts none false false true n later e = absurd (subst IsAccepted (sym e) tt)
-judge-accepts none false false false n later e = (refl, refl, e)
-
-module _ (edition : ℕ) (bytes : List ℕ) (header : 7 ≤ length bytes) (low : stageOf bytes ≤ 1) where
-  token-length : (n : ℕ) → n < tokenCount bytes → length (tokenAt bytes n) ≡ 24
-  token-length n l = simp (length-take, length-drop) (omega arith)
-
-  listable : (left n : ℕ) (st : check.State) (m : ℕ) → n + left ≤ tokenCount bytes → length (st .openBranches) ≤ 16
-      → checkFrom st m (tokensFrom edition bytes n left) ≡ accepted → Listable (stageOf bytes) bytes n left (length (st .openBranches))
-  unfolding checkFrom
-  listable zero n st m l h e = tt
-  listable (suc left) n st m l h e =
-      let s = tokenAt bytes n in
-      let count : ℕ → ℕ = λ k. countOf k edition (stageOf bytes) in
-      let pt = pathTokenAt count edition (stageOf bytes) s in
-      let bs = st .openBranches in
-      let (o, stray, later) = judge-accepts (pt .fault) (misplaced (pt .flow) bs) (lacks (setBefore pt st) (pt .reads source1)) (lacks (setBefore pt st) (pt .reads source2)) m (checkFrom (nextState st m pt) (suc m) (tokensFrom edition bytes (n + 1) left)) e in
-      let (shown, after, most) = depth-law (pt .flow) bs m stray h in (
-        token-decodes count edition (stageOf bytes) s o (token-length n (omega (arith, l))),
-        token-named count edition (stageOf bytes) s o (shownDepth (pt .flow) (length bs)) low shown,
-        subst (Listable (stageOf bytes) bytes (n + 1) left) after
-            (listable left (n + 1) (nextState st m pt) (suc m) (omega (arith, l)) most later),
-      )
-
--- what is known of an accepted program
+-- what is known of it
 pub record Listing (bytes : List ℕ) (p : Program) : Type 0 where
   pub header : 7 ≤ length bytes
   pub is : p ≡ program (stageOf bytes) (tokenCount bytes)
   pub lines : Listable (stageOf bytes) bytes 0 (tokenCount bytes) 0
 
-abbrev programIn : Checked → Program
-programIn (Accepted p) = p
-programIn (Refused r) = program 0 0
+module _ (edition : ℕ) (bytes : List ℕ) (p : Program) (e : verdict edition bytes ≡ Accepted p) where
+  abbrev count : ℕ → ℕ
+  count k = countOf k edition (stageOf bytes)
 
-abbrev IsProgram : Checked → Type 0
-IsProgram (Accepted p) = Unit {0}
-IsProgram (Refused r) = ⊥
+  -- so many tokens from token n on, where these branches are open before it
+  listable : (left n : ℕ) (bs : List Branch) (m : ℕ) → n + left ≤ tokenCount bytes → length bs ≤ 16
+      → ((i : ℕ) → i < left → misplacedFrom bs m (tokensFrom edition bytes n left) i ≡ false) → Listable (stageOf bytes) bytes n left (length bs)
+  listable zero n bs m l h placed = tt
+  listable (suc left) n bs m l h placed =
+      let s = tokenAt bytes n in
+      let flow = flowIn (recordOf s) in
+      let l′ : n < tokenCount bytes = omega (arith, l) in
+      let (shown, after, most) = depth-law flow bs m (placed 0 (omega arith)) h in (
+        whole-tokens edition bytes p e .decode n l′,
+        token-named count edition (stageOf bytes) s (rules-kept edition bytes p e n l′) (shownDepth flow (length bs)) (stage-known edition bytes p e) shown,
+        subst (Listable (stageOf bytes) bytes (n + 1) left) after
+            (listable left (n + 1) (branchesAfter flow m bs) (suc m) (omega (arith, l)) most (λ i k. placed (suc i) (omega (arith, k)))),
+      )
 
-module _ (edition : ℕ) (bytes : List ℕ) (p : Program) where
-  pub lists : verdict edition bytes ≡ Accepted p → Listing bytes p
-  unfolding verdict
-  lists = go (firstFault (headerRules edition bytes)) refl (verdictOf (tokensOf edition bytes)) refl
-    where
-      go : (o : Option TokenFault) → firstFault (headerRules edition bytes) ≡ o → (a : Answer) → verdictOf (tokensOf edition bytes) ≡ a
-          → afterHeader o (answerOf bytes a) ≡ Accepted p → Listing bytes p
-      go (some f) e a k q = absurd (subst IsProgram (sym q) tt)
-      go none e (refused number token part) k q = absurd (subst IsProgram (sym q) tt)
-      go none e accepted k q =
-          let header = has-header edition bytes e in
-          let low = ltb-false 1 (stageOf bytes) (none-broken (headerRules edition bytes) e .1 .1 .1 .1 .1 .0) in
-          record {
-            header = header;
-            is = sym (ap programIn q);
-            lines = listable edition bytes header low (tokenCount bytes) 0 start 0 (omega arith) (omega arith) k;
-          }
+  pub lists : Listing bytes p
+  lists = record {
+    header = header-whole edition bytes p e;
+    is = is-program edition bytes p e;
+    lines = listable (tokenCount bytes) 0 [] 0 (omega arith) (omega arith) (well-placed edition bytes p e);
+  }

@@ -3,7 +3,7 @@
 use Prim.Native.Nat.{ℕ, zero, suc, _≤_}
 use mathlib.Core.Bool.{Bool, true, false, cond}
 use mathlib.Core.List.{List, [], _∷_, _++_}
-use mathlib.Core.Option.{Option, none, some}
+use mathlib.Core.Option.{Option, none, some, Option·some-ne-none}
 use mathlib.Core.Path.{_≡_, refl, _∙_, sym, ap}
 use lib.Dec.{eqb·suc-zero}
 use Rattle.bytecode.specs.Decode.{refusal}
@@ -17,6 +17,22 @@ use Rattle.verifier.specs.Profile.{countIn}
 use Rattle.verifier.specs.Order.{Rule, rule, firstFault, sourceRules, recordRules}
 use Rattle.verifier.specs.Faults.{numberOf, refusalAt, swizzleWrong, sourcesFault, recordFault}
 use Rattle.verifier.specs.declared.profile.Profile.{Profile}
+
+-- ---- no rule is broken
+
+abbrev pub AllKept : List Rule → Type 0
+AllKept [] = Unit {0}
+AllKept (r ∷ rs) = (r .broken ≡ false) × AllKept rs
+
+pub none-broken : (rs : List Rule) → firstFault rs ≡ none → AllKept rs
+none-broken [] e = tt
+none-broken (r ∷ rs) e = go (λ k. none-broken rs k) (r .broken) refl e
+  where
+    go : (firstFault rs ≡ none → AllKept rs) → (b : Bool) → r .broken ≡ b → cond b (some (record { number = r .number; part = r .part })) (firstFault rs) ≡ none → AllKept (r ∷ rs)
+    go ih true q k = absurd (Option·some-ne-none _ k)
+    go ih false q k = (q, ih k)
+
+-- ---- one rule after another
 
 abbrev pub orElse : Option TokenFault → Option TokenFault → Option TokenFault
 orElse none b = b

@@ -1,4 +1,5 @@
 pub mod Abstract
+pub mod AcceptedTokens
 pub mod Added
 pub mod BenchCases
 pub mod ExactCheck

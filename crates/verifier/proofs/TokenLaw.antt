@@ -3,7 +3,7 @@
 use Prim.Native.Nat.{ℕ, suc, _≤_}
 use mathlib.Core.Bool.{Bool, true, false, not, cond}
 use mathlib.Core.List.{List, [], _∷_}
-use mathlib.Core.Option.{Option, none, some, Option·some-ne-none}
+use mathlib.Core.Option.{Option, none, some}
 use mathlib.Core.Path.{_≡_, refl, _∙_, sym, ap, subst}
 use native.Mathlib.Omega.{arith}
 use lib.Dec.{eqb, ltb}
@@ -22,7 +22,7 @@ use Rattle.paths.specs.Tokens.{pathTokenOf}
 use Rattle.paths.specs.Check.{checkFrom}
 use Rattle.verifier.specs.Rules.{opcodeTooNew, opcodeNotForStage, destinationWrong}
 use Rattle.verifier.specs.Profile.{profileOf}
-use Rattle.verifier.specs.Order.{Rule, firstFault, tokenRules, recordOf, pathTokenAt}
+use Rattle.verifier.specs.Order.{firstFault, tokenRules, recordOf, pathTokenAt}
 use Rattle.verifier.specs.Faults.{refusalAt, ownFault, undecodedFault}
 use Rattle.verifier.specs.State.{topOf, withTop}
 use Rattle.verifier.specs.Step.{stepped, followOf, takeOf, decidedOf, stepOf}
@@ -30,23 +30,10 @@ use Rattle.verifier.specs.declared.profile.Profile.{Profile}
 use Rattle.verifier.specs.declared.state.State.{State}
 use Rattle.verifier.specs.declared.step.Stepped.{Stepped}
 use Rattle.verifier.proofs.Abstract.{abstractOf, Valid, valid-own}
+use Rattle.verifier.proofs.FaultLaws.{none-broken}
 use Rattle.verifier.proofs.NextState.{Kept}
 use Rattle.verifier.proofs.OwnFault.{token-numbered, refused-fault, taken-fault}
 use Rattle.verifier.proofs.StepLaw.{after, kept, followed, follow-valid}
-
--- ---- no rule is broken
-
-abbrev AllKept : List Rule → Type 0
-AllKept [] = Unit {0}
-AllKept (r ∷ rs) = (r .broken ≡ false) × AllKept rs
-
-none-broken : (rs : List Rule) → firstFault rs ≡ none → AllKept rs
-none-broken [] e = tt
-none-broken (r ∷ rs) e = go (λ k. none-broken rs k) (r .broken) refl e
-  where
-    go : (firstFault rs ≡ none → AllKept rs) → (b : Bool) → r .broken ≡ b → cond b (some (record { number = r .number; part = r .part })) (firstFault rs) ≡ none → AllKept (r ∷ rs)
-    go ih true q k = absurd (Option·some-ne-none _ k)
-    go ih false q k = (q, ih k)
 
 -- the destination of a token with none of faults 9 to 19
 destination-right : (count : ℕ → ℕ) (edition stage : ℕ) (s : List ℕ) → firstFault (tokenRules count edition stage s) ≡ none

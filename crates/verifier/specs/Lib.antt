@@ -1,3 +1,4 @@
+pub mod Accepted
 pub mod BenchCases
 pub mod Exact
 pub mod Faults
