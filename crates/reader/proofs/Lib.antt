@@ -1,2 +1,3 @@
+pub mod AcceptedRun
 pub mod ReadingLaws
 pub mod ReadsInOrder

@@ -13,8 +13,9 @@ use Rattle.bytecode.specs.declared.record.Token.{Token}
 use Rattle.bytecode.specs.declared.answers.Refusal.{Refusal}
 use Rattle.bytecode.specs.declared.answers.Decoded.{Decoded}
 use Rattle.bytecode.specs.declared.answers.Decoded.the-variants.{Token as Accepted, Refused}
+use Rattle.verifier.specs.Order.{tokenAt}
 use Rattle.reader.specs.declared.answers.Opening.the-variants.{Ready, Refused as NotOpened}
-use Rattle.reader.specs.Reading.{openingFault, openingNumbers, openingOf, tokenStart, tokenBytes, noTokenLeft, standsAt, faultAt, readOf, readFault, placeFrom, placeAfter, ReadsAt, Steps}
+use Rattle.reader.specs.Reading.{openingFault, openingNumbers, openingOf, tokenStart, noTokenLeft, standsAt, faultAt, readOf, readFault, placeFrom, placeAfter, ReadsAt, Steps}
 
 module _ (s : List ℕ) where
   pub too-short : length s < 7 → NotOpened (refusal 2 0 0) ≡ openingOf s
@@ -49,16 +50,16 @@ module _ (s : List ℕ) (n : ℕ) where
   unfolding readOf readFault
   none-left h = let e = lt-ltb (length s) (tokenStart n + 24) h in record { answer = simp e; numbers = simp e }
 
-  pub one-left : tokenStart n + 24 ≤ length s → ReadsAt s n (standsAt n (decodeOf (tokenBytes s n)))
+  pub one-left : tokenStart n + 24 ≤ length s → ReadsAt s n (standsAt n (decodeOf (tokenAt s n)))
   unfolding readOf readFault
-  one-left h = let e = le-ltb (length s) (tokenStart n + 24) h in record { answer = simp e; numbers = rw e (stands-numbers n (tokenBytes s n)) }
+  one-left h = let e = le-ltb (length s) (tokenStart n + 24) h in record { answer = simp e; numbers = rw e (stands-numbers n (tokenAt s n)) }
 
   -- a token that is read stands whole within the program
   pub token-left : (t : Token) → readOf s n ≡ Accepted t → tokenStart n + 24 ≤ length s
   unfolding readOf
   token-left t e = go (noTokenLeft s n) refl e
     where
-      go : (none : Bool) → noTokenLeft s n ≡ none → cond none (Refused (refusal 24 n 0)) (standsAt n (decodeOf (tokenBytes s n))) ≡ Accepted t → tokenStart n + 24 ≤ length s
+      go : (none : Bool) → noTokenLeft s n ≡ none → cond none (Refused (refusal 24 n 0)) (standsAt n (decodeOf (tokenAt s n))) ≡ Accepted t → tokenStart n + 24 ≤ length s
       go true l h = let z : _≡_ {A = ℕ} 0 1 = cc in absurd (omega arith)
       go false l h = ltb-false _ _ l
 

@@ -15,18 +15,19 @@ use Rattle.bytecode.specs.declared.record.Token.{Token}
 use Rattle.bytecode.specs.declared.answers.Refusal.{Refusal}
 use Rattle.bytecode.specs.declared.answers.Decoded.the-variants.{Token as Accepted, Refused}
 use Rattle.bytecode.proofs.DecodeLaws.{accepted}
-use Rattle.reader.specs.Reading.{openingFault, tokenStart, tokenBytes, standsAt, readOf, placeAfter}
-use Rattle.reader.specs.Sequence.{placeAfterReads, placeOpened, TokensDecode, ReadsInOrder, StaysRefused, RefusedOpening}
+use Rattle.verifier.specs.Order.{tokenAt}
+use Rattle.reader.specs.Reading.{openingFault, tokenStart, standsAt, readOf, placeAfter}
+use Rattle.reader.specs.Sequence.{placeAfterReads, placeOpened, HoldsTokens, ReadsInOrder, StaysRefused, RefusedOpening}
 use Rattle.reader.proofs.ReadingLaws.{none-left, one-left, moves-on, stays}
 
 -- a list of which 24 elements can be taken from a place has them all
-whole : (s : List ℕ) (n : ℕ) → length (tokenBytes s n) ≡ 24 → tokenStart n + 24 ≤ length s
+whole : (s : List ℕ) (n : ℕ) → length (tokenAt s n) ≡ 24 → tokenStart n + 24 ≤ length s
 whole s n e = omega (arith, simp (length-take, length-drop) at e)
 
 module _ (s : List ℕ) where
   -- a token that decodes is what a read answers
-  reads-token : (n : ℕ) (t : Token) → decodeOf (tokenBytes s n) ≡ Accepted t → readOf s n ≡ Accepted t
-  reads-token n t e = sym (one-left s n (whole s n (accepted (tokenBytes s n) t e .0)) .answer) ∙ ap (standsAt n) e
+  reads-token : (n : ℕ) (t : Token) → decodeOf (tokenAt s n) ≡ Accepted t → readOf s n ≡ Accepted t
+  reads-token n t e = sym (one-left s n (whole s n (accepted (tokenAt s n) t e .0)) .answer) ∙ ap (standsAt n) e
 
   pub stays-refused : (n : ℕ) (r : Refusal) → readOf s n ≡ Refused r → StaysRefused s n r
   stays-refused n r e = record { place = place; answer = λ reads. rw (place reads) e }
@@ -43,25 +44,25 @@ module _ (s : List ℕ) where
       go true l h = let b : length s < 7 = ltb-true _ _ l in stays-refused 0 (refusal 24 0 0) (sym (none-left s 0 (omega arith) .answer))
       go false l h = absurd (omega (arith, h))
 
-  module _ (k : ℕ) (token : ℕ → Token) (decode : TokensDecode s k token) where
+  module _ (k : ℕ) (token : ℕ → Token) (holds : HoldsTokens s k token) where
     place : (i : ℕ) → i ≤ k → placeOpened s i ≡ i
     place zero h = refl
     place (suc i) h =
         let h′ : i < k = omega arith in
-        rw (place i (omega arith)) (moves-on s i (token i) (reads-token i (token i) (decode i h′)) ∙ add-one i)
+        rw (place i (omega arith)) (moves-on s i (token i) (reads-token i (token i) (holds .decode i h′)) ∙ add-one i)
 
     -- reads after the last token
     past : (j : ℕ) → placeOpened s (k + j) ≡ placeAfterReads s k j
     past zero = rw add-zero (place k (omega arith))
     past (suc j) = rw add-suc (ap (placeAfter s) (past j))
 
-    ends : length s < tokenStart k + 24 → StaysRefused s k (refusal 24 k 0)
-    ends h = stays-refused k (refusal 24 k 0) (sym (none-left s k h .answer))
+    ends : StaysRefused s k (refusal 24 k 0)
+    ends = stays-refused k (refusal 24 k 0) (sym (none-left s k (holds .end) .answer))
 
     pub reads-in-order : ReadsInOrder s k token
     reads-in-order = record {
       place = place;
-      answer = λ i h. rw (place i (omega arith)) (reads-token i (token i) (decode i h));
-      lastPlace = λ h j. past j ∙ ends h .place j;
-      lastAnswer = λ h j. rw (past j) (ends h .answer j);
+      answer = λ i h. rw (place i (omega arith)) (reads-token i (token i) (holds .decode i h));
+      lastPlace = λ j. past j ∙ ends .place j;
+      lastAnswer = λ j. rw (past j) (ends .answer j);
     }

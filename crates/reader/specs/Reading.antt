@@ -4,12 +4,13 @@ use mathlib.Core.Bool.{Bool, cond}
 use mathlib.Core.List.{List}
 use mathlib.Core.Path.{_≡_}
 use lib.Dec.{ltb, eqb}
-use lib.ListN.{length, take, drop}
+use lib.ListN.{length}
 use denote.Ref.{RefT, now}
 use Rattle.bytecode.specs.Decode.{refusal, noRefusal, decodedNumbers, decodeFault, decodeOf}
 use Rattle.bytecode.specs.declared.answers.Refusal.{Refusal}
 use Rattle.bytecode.specs.declared.answers.Decoded.{Decoded}
 use Rattle.bytecode.specs.declared.answers.Decoded.the-variants.{Token as Accepted, Refused}
+use Rattle.verifier.specs.Order.{tokenAt}
 use Rattle.reader.specs.declared.answers.TokenReader.{TokenReader}
 use Rattle.reader.specs.declared.answers.Opening.{Opening}
 use Rattle.reader.specs.declared.answers.Opening.the-variants.{Ready, Refused as NotOpened}
@@ -32,11 +33,7 @@ openingOf s = cond (eqb (openingFault s .number) 0) Ready (NotOpened (openingFau
 
 -- "Then tokens of 24 bytes", after a header of 7: where a token begins
 abbrev pub tokenStart : ℕ → ℕ
-tokenStart n = 7 + 24 * n
-
--- "the next 24 bytes"
-abbrev pub tokenBytes : List ℕ → ℕ → List ℕ
-tokenBytes s n = take 24 (drop (tokenStart n) s)
+tokenStart n = 7 + n * 24
 
 -- "Fewer than 24 left"
 abbrev pub noTokenLeft : List ℕ → ℕ → Bool
@@ -47,16 +44,17 @@ abbrev pub standsAt : ℕ → Decoded → Decoded
 standsAt n (Accepted t) = Accepted t
 standsAt n (Refused r) = Refused (refusal (r .number) n (r .part))
 
--- "Each read decodes the next 24 bytes", "Fewer than 24 left answers 24": what a read answers after n tokens read
+-- "Each read decodes the next 24 bytes", "Fewer than 24 left answers 24": what a read answers after n tokens read; tokenAt has the bytes of
+-- token n
 unfoldable pub readOf : List ℕ → ℕ → Decoded
-readOf s n = cond (noTokenLeft s n) (Refused (refusal 24 n 0)) (standsAt n (decodeOf (tokenBytes s n)))
+readOf s n = cond (noTokenLeft s n) (Refused (refusal 24 n 0)) (standsAt n (decodeOf (tokenAt s n)))
 
 -- the numbers of that answer; all are 0 where nothing is refused
 unfoldable pub faultAt : ℕ → Refusal → Refusal
 faultAt n r = cond (eqb (r .number) 0) noRefusal (refusal (r .number) n (r .part))
 
 unfoldable pub readFault : List ℕ → ℕ → Refusal
-readFault s n = cond (noTokenLeft s n) (refusal 24 n 0) (faultAt n (decodeFault (tokenBytes s n)))
+readFault s n = cond (noTokenLeft s n) (refusal 24 n 0) (faultAt n (decodeFault (tokenAt s n)))
 
 -- "and moves on"; "any refusal leaves the place unmoved"
 abbrev pub placeFrom : ℕ → Decoded → ℕ

@@ -33,7 +33,7 @@ pub fn read_at(program: &[u8], token: usize) -> Decoded
     if (program.len() - 31) / 24 < token {
         return Decoded::Refused(refused(24, token, 0));
     }
-    let start = 7 + 24 * token;
+    let start = 7 + token * 24;
     let end = start + 24;
     stands_at(token, bytecode::decode(&program[start..end]))
 }
