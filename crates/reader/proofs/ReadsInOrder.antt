@@ -26,7 +26,7 @@ whole s n e = omega (arith, simp (length-take, length-drop) at e)
 
 module _ (s : List ℕ) where
   -- a token that decodes is what a read answers
-  reads-token : (n : ℕ) (t : Token) → decodeOf (tokenAt s n) ≡ Accepted t → readOf s n ≡ Accepted t
+  pub reads-token : (n : ℕ) (t : Token) → decodeOf (tokenAt s n) ≡ Accepted t → readOf s n ≡ Accepted t
   reads-token n t e = sym (one-left s n (whole s n (accepted (tokenAt s n) t e .0)) .answer) ∙ ap (standsAt n) e
 
   pub stays-refused : (n : ℕ) (r : Refusal) → readOf s n ≡ Refused r → StaysRefused s n r

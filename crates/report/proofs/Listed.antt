@@ -1,6 +1,6 @@
--- What decode and line did for a token of an accepted program: line was lent 128 bytes.
+-- What the reader and line did for a token of an accepted program: line was lent 128 bytes.
 -- Assumes nothing.
-use Prim.Native.Nat.{ℕ, _+_, _-_, _*_, _≤_}
+use Prim.Native.Nat.{ℕ, _≤_}
 use mathlib.Core.Bool.{true}
 use mathlib.Core.List.{List, _++_}
 use mathlib.Core.Path.{_≡_, _∙_, sym, ap, subst}
@@ -18,6 +18,8 @@ use Rattle.listing.specs.Writers.{Appends}
 use Rattle.listing.specs.declared.answers.Line.{Line}
 use Rattle.listing.specs.declared.answers.Line.the-variants.{Length, Refused}
 use Rattle.verifier.specs.Order.{tokenAt, recordOf}
+use Rattle.reader.specs.Reading.{readOf}
+use Rattle.reader.proofs.ReadsInOrder.{reads-token}
 
 abbrev lengthIn : Line → ℕ
 lengthIn (Length n) = n
@@ -58,7 +60,7 @@ module _ (t : Token) (stage depth : ℕ) (before after : List ℕ) (r : Line) (l
   line-copied n g {k} {at} {q} {l} {m} h a =
       record { text = a .text ∙ ap (λ (x : List ℕ). take at l ++ x) (line-text n g); room = omega (arith, a .room, h) }
 
--- ---- what decode answered of the bytes that the code cut out
+-- ---- what the reader answered of a token that decodes
 
 abbrev recordIn : Token → Decoded → Token
 recordIn other (Accepted t) = t
@@ -69,14 +71,12 @@ isRecord (Accepted t) = Unit {0}
 isRecord (NotDecoded r) = ⊥
 
 module _ (bytes : List ℕ) (n : ℕ) (h : decodeOf (tokenAt bytes n) ≡ Accepted (recordOf (tokenAt bytes n)))
-    (d : Decoded) (e : d ≡ decodeOf (take (7 + n * 24 + 24 - (7 + n * 24)) (drop (7 + n * 24) bytes))) where
-  decoded : d ≡ Accepted (recordOf (tokenAt bytes n))
-  decoded =
-      let width : 7 + n * 24 + 24 - (7 + n * 24) ≡ 24 = omega arith in
-      e ∙ ap (λ k. decodeOf (take k (drop (7 + n * 24) bytes))) width ∙ h
+    (d : Decoded) (e : d ≡ readOf bytes n) where
+  was-read : d ≡ Accepted (recordOf (tokenAt bytes n))
+  was-read = e ∙ reads-token bytes n (recordOf (tokenAt bytes n)) h
 
   pub record-is : (t : Token) → d ≡ Accepted t → t ≡ recordOf (tokenAt bytes n)
-  record-is t k = ap (recordIn t) (sym k ∙ decoded)
+  record-is t k = ap (recordIn t) (sym k ∙ was-read)
 
-  pub decode-took : (r : Refusal) → d ≡ NotDecoded r → ⊥
-  decode-took r k = subst isRecord (sym decoded ∙ k) tt
+  pub token-read : (r : Refusal) → d ≡ NotDecoded r → ⊥
+  token-read r k = subst isRecord (sym was-read ∙ k) tt

@@ -42,13 +42,10 @@ pub(crate) fn put_tokens(out: &mut [u8], at: usize, stage: u8, bytes: &[u8]) -> 
 
 // The record of a token that decode does not refuse.
 fn token_at(bytes: &[u8], token: usize) -> Token
-    requires { ⌜ (7 + token * 24) + 24 ≤ length (now bytes) ⌝ }
     requires { ⌜ decodeOf (tokenAt (now bytes) token) ≡ Accepted (recordOf (tokenAt (now bytes) token)) ⌝ }
     ensures { λ r. ⌜ r ≡ recordOf (tokenAt (now (bytes .entry)) token) ⌝ }
 {
-    let from = 7 + token * 24;
-    let end = from + 24;
-    match bytecode::decode(&bytes[from..end]) {
+    match reader::read_at(bytes, token) {
         Decoded::Token(t) => t,
         Decoded::Refused(_) => blank(),
     }

@@ -42,7 +42,7 @@ token-at-requires : tie.Need-token-at-requires Inv-loop μ-loop
 token-at-requires c κs =
     let a = c .before .before .before .before .args in
     let entry = c .before .loop in
-    (omega arith, decodes (a .stage) (now (a .bytes)) (entry .token) (entry .opened) (c .loop-test .taken) (entry .inv .3))
+    decodes (a .stage) (now (a .bytes)) (entry .token) (entry .opened) (c .loop-test .taken) (entry .inv .3)
 
 shown-depth-requires : tie.Need-shown-depth-requires Inv-loop μ-loop
 shown-depth-requires c κs = search needs
