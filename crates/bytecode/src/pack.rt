@@ -271,7 +271,7 @@ fn sampler_high(dimension: u8, special: u8, wrap: u8, mipmap: u8, filter: u8) ->
 }
 
 // A signed byte as the byte that says it, by two's complement.
-fn unsigned_byte(value: i8) -> u8
+pub fn unsigned_byte(value: i8) -> u8
     ensures { λ r. ⌜ (r ≡ unsigned value) × T (isSignedByte value) ⌝ }
 {
     ((value as i16 + 256) % 256) as u8

@@ -120,7 +120,7 @@ pub fn unpack_sampler(field: u64) -> Sampler
 }
 
 // A byte as a signed number, by two's complement.
-fn signed_byte(byte: u8) -> i8
+pub fn signed_byte(byte: u8) -> i8
     ensures { λ r. ⌜ r ≡ signed byte ⌝ }
 {
     if byte < 128 {

@@ -1,0 +1,89 @@
+-- What the exported functions answer, from what the functions that they call answer.
+-- Assumes nothing.
+use Prim.Native.Nat.{ℕ, _+_, _<_, _≤_}
+use mathlib.Core.Bool.{Bool, true, false, cond, _&&_, false≢true}
+use mathlib.Core.List.{List, _++_}
+use mathlib.Core.Path.{_≡_, refl}
+use native.Mathlib.Omega.{arith}
+use lib.Dec.{ltb}
+use lib.ListN.{length, drop}
+use borrow.Author.Tests.{lt-ltb, le-ltb, lt-leb, ltb-false}
+use Rattle.bytecode.specs.Decode.{refusal}
+use Rattle.bytecode.specs.Encode.{Encodes}
+use Rattle.bytecode.specs.declared.record.Token.{Token}
+use Rattle.bytecode.specs.declared.answers.Decoded.{Decoded}
+use Rattle.bytecode.specs.declared.answers.Decoded.the-variants.{Token as Read}
+use Rattle.bytecode.specs.declared.answers.Encoded.{Encoded}
+use Rattle.listing.specs.Line.{isNameable, Lists}
+use Rattle.listing.specs.declared.answers.Line.{Line}
+use Rattle.listing.specs.declared.answers.Line.the-variants.{Refused as NotListed}
+use Rattle.listing.proofs.LineLaws.{not-nameable}
+use Rattle.agal_c.specs.Answers.{answered, refused}
+use Rattle.agal_c.specs.Flat.{flatOf, isFlat, tokenOfFlat}
+use Rattle.agal_c.specs.Calls.{decodeAnswer, readAnswer, delivered, encodedAnswer, encodeAnswer, afterFlatEncode, listedAnswer, lineAnswerOf, afterFlatLine}
+
+-- ---- a record that was read, into a lent buffer
+
+module _ (t : Token) (d : Decoded) (buffer : List ℕ) (e : d ≡ Read t) where
+  pub decoded-no-room : length buffer < 29 → (refused (refusal 23 0 0) 0 ≡ decodeAnswer d buffer) × (buffer ≡ delivered d buffer)
+  decoded-no-room h = let l = lt-ltb (length buffer) 29 h in rw e (simp l, simp l)
+
+  pub decoded-room : 29 ≤ length buffer → (answered 0 29 ≡ decodeAnswer d buffer) × (flatOf t ++ drop 29 buffer ≡ delivered d buffer)
+  decoded-room h = let l = le-ltb (length buffer) 29 h in rw e (simp l, simp l)
+
+  pub read-no-room : (n : ℕ) → length buffer < 29 → (refused (refusal 23 n 0) n ≡ readAnswer n d buffer) × (buffer ≡ delivered d buffer)
+  read-no-room n h = let l = lt-ltb (length buffer) 29 h in rw e (simp l, simp l)
+
+  pub read-room : (n : ℕ) → 29 ≤ length buffer → (answered 0 (n + 1) ≡ readAnswer n d buffer) × (flatOf t ++ drop 29 buffer ≡ delivered d buffer)
+  read-room n h = let l = le-ltb (length buffer) 29 h in rw e (simp l, simp l)
+
+-- ---- a flat form
+
+and-false : (a : Bool) → (a && false) ≡ false
+and-false true = refl
+and-false false = refl
+
+pub flat-long : (s : List ℕ) → isFlat s ≡ true → 29 ≤ length s
+unfolding isFlat
+flat-long s e = go (ltb (length s) 29) _ refl e
+  where
+    go : (short known : Bool) → ltb (length s) 29 ≡ short → cond short false known ≡ true → 29 ≤ length s
+    go true known l h = absurd (false≢true h)
+    go false known l h = ltb-false _ _ l
+
+module _ (flat buffer : List ℕ) where
+  module _ (e : isFlat flat ≡ false) where
+    pub not-encoded : (refused (refusal 25 0 0) 0 ≡ encodeAnswer flat buffer) × (buffer ≡ afterFlatEncode flat buffer)
+    unfolding encodeAnswer afterFlatEncode
+    not-encoded = (simp e, simp e)
+
+    pub not-listed : (stage depth : ℕ) → (refused (refusal 25 0 0) 0 ≡ lineAnswerOf flat stage depth buffer) × (buffer ≡ afterFlatLine flat stage depth buffer)
+    unfolding lineAnswerOf afterFlatLine
+    not-listed stage depth = (simp e, simp e)
+
+  module _ (e : isFlat flat ≡ true) where
+    pub encoded : (t : Token) → t ≡ tokenOfFlat flat → (after : List ℕ) (r s : Encoded) → r ≡ s → Encodes t buffer after r
+        → (encodedAnswer s ≡ encodeAnswer flat buffer) × (after ≡ afterFlatEncode flat buffer)
+    unfolding encodeAnswer afterFlatEncode
+    encoded t g after r s h p = (simp (e, ← g, ← p .answer, h), simp (e, ← g, p .buffer))
+
+    pub listed : (stage depth : ℕ) (t : Token) → t ≡ tokenOfFlat flat → (after : List ℕ) (r s : Line) → r ≡ s → Lists t stage depth buffer after r
+        → (listedAnswer s ≡ lineAnswerOf flat stage depth buffer) × (after ≡ afterFlatLine flat stage depth buffer)
+    unfolding lineAnswerOf afterFlatLine
+    listed stage depth t g after r s h p = (simp (e, ← g, ← p .answer, h), simp (e, ← g, p .buffer))
+
+    -- a number above 255 is no stage and no depth
+    no-name : (stage depth : ℕ) → isNameable (tokenOfFlat flat) stage depth ≡ false
+        → (refused (refusal 25 0 0) 0 ≡ lineAnswerOf flat stage depth buffer) × (buffer ≡ afterFlatLine flat stage depth buffer)
+    no-name stage depth h =
+        listed stage depth (tokenOfFlat flat) refl buffer (NotListed (refusal 25 0 0)) (NotListed (refusal 25 0 0)) refl (not-nameable (tokenOfFlat flat) stage depth buffer h)
+
+    pub no-stage : (stage depth : ℕ) → 255 < stage
+        → (refused (refusal 25 0 0) 0 ≡ lineAnswerOf flat stage depth buffer) × (buffer ≡ afterFlatLine flat stage depth buffer)
+    unfolding isNameable
+    no-stage stage depth h = no-name stage depth (simp (lt-leb stage 1 (omega arith), and-false))
+
+    pub no-depth : (stage depth : ℕ) → 255 < depth
+        → (refused (refusal 25 0 0) 0 ≡ lineAnswerOf flat stage depth buffer) × (buffer ≡ afterFlatLine flat stage depth buffer)
+    unfolding isNameable
+    no-depth stage depth h = no-name stage depth (simp (lt-leb depth 16 (omega arith), and-false))

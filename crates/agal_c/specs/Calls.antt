@@ -1,0 +1,76 @@
+-- What each exported function answers, by what the libraries' functions answer, and what a lent buffer holds afterwards.
+use Prim.Native.Nat.{ℕ, _+_}
+use mathlib.Core.Bool.{cond}
+use mathlib.Core.List.{List, _++_}
+use lib.Dec.{ltb}
+use lib.ListN.{length, drop}
+use Rattle.bytecode.specs.Decode.{refusal}
+use Rattle.bytecode.specs.Encode.{encodeOf, afterEncode}
+use Rattle.bytecode.specs.declared.answers.Decoded.{Decoded}
+use Rattle.bytecode.specs.declared.answers.Decoded.the-variants.{Token as Read, Refused as NotRead}
+use Rattle.bytecode.specs.declared.answers.Encoded.{Encoded}
+use Rattle.bytecode.specs.declared.answers.Encoded.the-variants.{Written, Refused as NotWritten}
+use Rattle.listing.specs.Line.{lineAnswer, afterLine}
+use Rattle.listing.specs.declared.answers.Line.{Line}
+use Rattle.listing.specs.declared.answers.Line.the-variants.{Length as LineLength, Refused as NotListed}
+use Rattle.report.specs.declared.answers.Report.{Report}
+use Rattle.report.specs.declared.answers.Report.the-variants.{Length as TextLength, Refused as NotReported}
+use Rattle.verifier.specs.declared.answers.Checked.{Checked}
+use Rattle.verifier.specs.declared.answers.Checked.the-variants.{Accepted, Refused as NotAccepted}
+use Rattle.agal_c.specs.Answers.{answered, refused}
+use Rattle.agal_c.specs.Flat.{flatOf, isFlat, tokenOfFlat}
+use Rattle.agal_c.specs.declared.answers.Answer.{Answer}
+
+-- check: stage and token count
+abbrev pub checkAnswer : Checked → Answer
+checkAnswer (Accepted p) = answered (p .stage) (p .tokens)
+checkAnswer (NotAccepted r) = refused r 0
+
+-- ---- decode and the reader's step
+
+-- 23 where the lent buffer has no room for a flat form, after any refusal of the token; "for the reader the token it stands at"
+abbrev pub decodeAnswer : Decoded → List ℕ → Answer
+decodeAnswer (Read t) buffer = cond (ltb (length buffer) 29) (refused (refusal 23 0 0) 0) (answered 0 29)
+decodeAnswer (NotRead r) buffer = refused r 0
+
+-- "any refusal leaves the place unmoved"
+abbrev pub readAnswer : ℕ → Decoded → List ℕ → Answer
+readAnswer place (Read t) buffer = cond (ltb (length buffer) 29) (refused (refusal 23 place 0) place) (answered 0 (place + 1))
+readAnswer place (NotRead r) buffer = refused r place
+
+-- the flat form and then what was there, or all that was there
+abbrev pub delivered : Decoded → List ℕ → List ℕ
+delivered (Read t) buffer = cond (ltb (length buffer) 29) buffer (flatOf t ++ drop 29 buffer)
+delivered (NotRead r) buffer = buffer
+
+-- ---- encode
+
+abbrev pub encodedAnswer : Encoded → Answer
+encodedAnswer Written = answered 0 24
+encodedAnswer (NotWritten r) = refused r 0
+
+-- what is no flat form is 25, before any other test
+unfoldable pub encodeAnswer : List ℕ → List ℕ → Answer
+encodeAnswer flat buffer = cond (isFlat flat) (encodedAnswer (encodeOf (tokenOfFlat flat) buffer)) (refused (refusal 25 0 0) 0)
+
+unfoldable pub afterFlatEncode : List ℕ → List ℕ → List ℕ
+afterFlatEncode flat buffer = cond (isFlat flat) (afterEncode (tokenOfFlat flat) buffer) buffer
+
+-- ---- line
+
+abbrev pub listedAnswer : Line → Answer
+listedAnswer (LineLength n) = answered 0 n
+listedAnswer (NotListed r) = refused r 0
+
+unfoldable pub lineAnswerOf : List ℕ → ℕ → ℕ → List ℕ → Answer
+lineAnswerOf flat stage depth buffer =
+    cond (isFlat flat) (listedAnswer (lineAnswer (tokenOfFlat flat) stage depth buffer)) (refused (refusal 25 0 0) 0)
+
+unfoldable pub afterFlatLine : List ℕ → ℕ → ℕ → List ℕ → List ℕ
+afterFlatLine flat stage depth buffer = cond (isFlat flat) (afterLine (tokenOfFlat flat) stage depth buffer) buffer
+
+-- ---- report
+
+abbrev pub reportAnswerOf : Report → Answer
+reportAnswerOf (TextLength n) = answered 0 n
+reportAnswerOf (NotReported r) = refused r 0

@@ -1,0 +1,5 @@
+pub mod Answers
+pub mod Values
+pub mod Flat
+pub mod Calls
+pub mod ReadBack

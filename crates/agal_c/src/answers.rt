@@ -1,0 +1,52 @@
+// What the exported functions answer, as C reads it: `include/agal.h` has the same struct.
+ghost use mathlib.Core.Path.{_≡_};
+ghost use Rattle.agal_c.specs.Answers.{answered as answeredOf, refused as refusedOf};
+use bytecode::answers::Refusal;
+
+// `number` is 0 where nothing is refused. `token` and `part` are the place of a refusal, `stage` is what check found, and `value` what else
+// is answered: the token count of check, the length of what was written, or the reader's place.
+#[repr(C)]
+pub struct Answer {
+    pub number: u8,
+    pub part: u8,
+    pub stage: u8,
+    pub token: usize,
+    pub value: usize,
+}
+
+pub(crate) fn answered(stage: u8, value: usize) -> Answer
+    ensures { λ r. ⌜ r ≡ answeredOf stage value ⌝ }
+{
+    Answer {
+        number: 0,
+        part: 0,
+        stage,
+        token: 0,
+        value,
+    }
+}
+
+pub(crate) fn refused(refusal: Refusal, value: usize) -> Answer
+    ensures { λ r. ⌜ r ≡ refusedOf refusal value ⌝ }
+{
+    Answer {
+        number: refusal.number,
+        part: refusal.part,
+        stage: 0,
+        token: refusal.token,
+        value,
+    }
+}
+
+// A refusal of this crate's own.
+pub(crate) fn refused_by(number: u8, token: usize, value: usize) -> Answer
+    ensures { λ r. ⌜ r ≡ refusedOf (record { number = number; token = token; part = 0 }) value ⌝ }
+{
+    Answer {
+        number,
+        part: 0,
+        stage: 0,
+        token,
+        value,
+    }
+}

@@ -1,0 +1,159 @@
+// The values of a destination or a source, whatever its kind: what the flat form has a place for.
+ghost use mathlib.Core.Path.{_≡_};
+ghost use Rattle.agal_c.specs.Values.{values as valuesOf, destinationValues, samplerValues, operandValues, destinationFrom, samplerFrom, operandFrom};
+use bytecode::record::Destination;
+use bytecode::record::DirectSource;
+use bytecode::record::IndexedSource;
+use bytecode::record::MaskedRegister;
+use bytecode::record::Operand;
+use bytecode::record::Sampler;
+
+// `form` tells the cases of the record apart: 0 unused, 1 register or direct source, 2 indexed source, 3 sampler. The values after the
+// number stand in the order of the record; those that a case does not have are 0.
+pub(crate) struct Values {
+    pub form: u8,
+    pub number: u16,
+    pub first: u8,
+    pub second: u8,
+    pub third: u8,
+    pub fourth: u8,
+    pub fifth: u8,
+    pub sixth: u8,
+    pub seventh: u8,
+}
+
+pub(crate) fn destination_values(destination: Destination) -> Values
+    ensures { λ r. ⌜ r ≡ destinationValues destination ⌝ }
+{
+    match destination {
+        Destination::Unused => source_values(0, 0, 0, 0, 0, 0, 0),
+        Destination::Masked(m) => source_values(1, m.number, m.mask, m.kind, 0, 0, 0),
+    }
+}
+
+pub(crate) fn operand_values(operand: Operand) -> Values
+    ensures { λ r. ⌜ r ≡ operandValues operand ⌝ }
+{
+    match operand {
+        Operand::Unused => source_values(0, 0, 0, 0, 0, 0, 0),
+        Operand::Direct(s) => source_values(
+            1,
+            s.number,
+            s.offset,
+            s.swizzle,
+            s.kind,
+            s.index_kind,
+            s.component,
+        ),
+        Operand::Indexed(s) => source_values(
+            2,
+            s.number,
+            s.offset,
+            s.swizzle,
+            s.kind,
+            s.index_kind,
+            s.component,
+        ),
+        Operand::Sampler(s) => sampler_values(s),
+    }
+}
+
+fn source_values(
+    form: u8,
+    number: u16,
+    first: u8,
+    second: u8,
+    third: u8,
+    fourth: u8,
+    fifth: u8,
+) -> Values
+    ensures { λ r. ⌜ r ≡ valuesOf form number first second third fourth fifth 0 0 ⌝ }
+{
+    Values {
+        form,
+        number,
+        first,
+        second,
+        third,
+        fourth,
+        fifth,
+        sixth: 0,
+        seventh: 0,
+    }
+}
+
+fn sampler_values(s: Sampler) -> Values
+    ensures { λ r. ⌜ r ≡ samplerValues s ⌝ }
+{
+    let first = bytecode::unsigned_byte(s.bias);
+    Values {
+        form: 3,
+        number: s.number,
+        first,
+        second: s.kind,
+        third: s.dimension,
+        fourth: s.special,
+        fifth: s.wrap,
+        sixth: s.mipmap,
+        seventh: s.filter,
+    }
+}
+
+// A destination has two values after its number.
+pub(crate) fn destination_from(v: Values) -> Destination
+    ensures { λ r. ⌜ r ≡ destinationFrom v ⌝ }
+{
+    if v.form == 0 {
+        return Destination::Unused;
+    }
+    Destination::Masked(MaskedRegister {
+        number: v.number,
+        mask: v.first,
+        kind: v.second,
+    })
+}
+
+pub(crate) fn operand_from(v: Values) -> Operand
+    ensures { λ r. ⌜ r ≡ operandFrom v ⌝ }
+{
+    if v.form == 0 {
+        return Operand::Unused;
+    }
+    if v.form == 1 {
+        return Operand::Direct(DirectSource {
+            number: v.number,
+            offset: v.first,
+            swizzle: v.second,
+            kind: v.third,
+            index_kind: v.fourth,
+            component: v.fifth,
+        });
+    }
+    if v.form == 2 {
+        return Operand::Indexed(IndexedSource {
+            number: v.number,
+            offset: v.first,
+            swizzle: v.second,
+            kind: v.third,
+            index_kind: v.fourth,
+            component: v.fifth,
+        });
+    }
+    Operand::Sampler(sampler_from(v))
+}
+
+fn sampler_from(v: Values) -> Sampler
+    ensures { λ r. ⌜ r ≡ samplerFrom v ⌝ }
+{
+    let bias = bytecode::signed_byte(v.first);
+    Sampler {
+        number: v.number,
+        bias,
+        kind: v.second,
+        dimension: v.third,
+        special: v.fourth,
+        wrap: v.fifth,
+        mipmap: v.sixth,
+        filter: v.seventh,
+    }
+}
