@@ -1,0 +1,87 @@
+//! The functions of `include/agal.h`. All of the crate's unsafe code is here: a slice is handed over as its
+//! pointer and its length, which is what each function asks for.
+
+/// What a function answers; the fields are those of `agal_answer`.
+#[repr(C)]
+pub(crate) struct Answer {
+    pub number: u8,
+    pub part: u8,
+    pub stage: u8,
+    pub token: usize,
+    pub value: usize,
+}
+
+extern "C" {
+    fn agal_check(edition: u32, program: *const u8, length: usize) -> Answer;
+    fn agal_decode(token: *const u8, length: usize, flat: *mut u8, flat_length: usize) -> Answer;
+    fn agal_read(
+        program: *const u8,
+        length: usize,
+        place: usize,
+        flat: *mut u8,
+        flat_length: usize,
+    ) -> Answer;
+    fn agal_encode(flat: *const u8, flat_length: usize, out: *mut u8, out_length: usize) -> Answer;
+    fn agal_line(
+        flat: *const u8,
+        flat_length: usize,
+        stage: u32,
+        depth: u32,
+        out: *mut u8,
+        out_length: usize,
+    ) -> Answer;
+    fn agal_report(input: *const u8, length: usize, out: *mut u8, out_length: usize) -> Answer;
+    fn agal_bias(bias: i8) -> f32;
+}
+
+pub(crate) fn check(edition: u32, program: &[u8]) -> Answer {
+    // SAFETY: a slice is good for reading over its length.
+    unsafe { agal_check(edition, program.as_ptr(), program.len()) }
+}
+
+pub(crate) fn decode(token: &[u8], flat: &mut [u8]) -> Answer {
+    // SAFETY: both slices are good over their lengths, and `&mut` rules out that they overlap.
+    unsafe { agal_decode(token.as_ptr(), token.len(), flat.as_mut_ptr(), flat.len()) }
+}
+
+pub(crate) fn read(program: &[u8], place: usize, flat: &mut [u8]) -> Answer {
+    // SAFETY: as for `decode`.
+    unsafe {
+        agal_read(
+            program.as_ptr(),
+            program.len(),
+            place,
+            flat.as_mut_ptr(),
+            flat.len(),
+        )
+    }
+}
+
+pub(crate) fn encode(flat: &[u8], out: &mut [u8]) -> Answer {
+    // SAFETY: as for `decode`.
+    unsafe { agal_encode(flat.as_ptr(), flat.len(), out.as_mut_ptr(), out.len()) }
+}
+
+pub(crate) fn line(flat: &[u8], stage: u32, depth: u32, out: &mut [u8]) -> Answer {
+    // SAFETY: as for `decode`.
+    unsafe {
+        agal_line(
+            flat.as_ptr(),
+            flat.len(),
+            stage,
+            depth,
+            out.as_mut_ptr(),
+            out.len(),
+        )
+    }
+}
+
+pub(crate) fn report(input: &[u8], out: &mut [u8]) -> Answer {
+    // SAFETY: as for `decode`.
+    unsafe { agal_report(input.as_ptr(), input.len(), out.as_mut_ptr(), out.len()) }
+}
+
+pub(crate) fn bias(bias: i8) -> f32 {
+    // SAFETY: a number is all that is handed over.
+    unsafe { agal_bias(bias) }
+}
