@@ -11,7 +11,7 @@ use Rattle.agal_c.specs.declared.values.Values.{Values}
 
 -- ---- written
 
--- form, number and mask and register type
+-- form, number, mask and register type
 abbrev pub destinationBytes : Values → List ℕ
 destinationBytes v = v .form ∷ v .number % 256 ∷ v .number / 256 ∷ v .first ∷ v .second ∷ []
 
@@ -38,7 +38,8 @@ isFlat s = cond (ltb (length s) 29) false (leb (getD s 4 0) 1 && leb (getD s 9 0
 abbrev pub valuesAt : List ℕ → ℕ → Values
 valuesAt s at =
     values (getD s at 0) (getD s (at + 1) 0 + 256 * getD s (at + 2) 0)
-    (getD s (at + 3) 0) (getD s (at + 4) 0) (getD s (at + 5) 0) (getD s (at + 6) 0) (getD s (at + 7) 0) (getD s (at + 8) 0) (getD s (at + 9) 0)
+    (getD s (at + 3) 0) (getD s (at + 4) 0) (getD s (at + 5) 0) (getD s (at + 6) 0)
+    (getD s (at + 7) 0) (getD s (at + 8) 0) (getD s (at + 9) 0)
 
 unfoldable pub tokenOfFlat : List ℕ → Token
 tokenOfFlat s =

@@ -19,7 +19,13 @@ flat-bytes-requires c κs = search needs
 
 returns : tie.Need-returns
 unfolding flatOf
-returns c = simp (c .flat-bytes .ensures, c .before .operand-values2 .ensures, c .before .before .operand-values .ensures, c .before .before .before .destination-values .ensures)
+returns c =
+    simp (
+      c .flat-bytes .ensures,
+      c .before .operand-values2 .ensures,
+      c .before .before .operand-values .ensures,
+      c .before .before .before .destination-values .ensures,
+    )
 
 pub flat-of-spec : {M : Type 1} → statement M
 flat-of-spec =

@@ -40,7 +40,16 @@ operand-from-requires-2 c κs = search needs
 
 returns : tie.Need-returns
 unfolding tokenOfFlat
-returns c = simp (c .operand-from2 .ensures, c .before .operand-from .ensures, c .before .before .destination-from .ensures, c .before .before .before .values-at3 .ensures, c .before .before .before .before .values-at2 .ensures, c .before .before .before .before .before .values-at .ensures, c .before .before .before .before .before .before .word .ensures)
+returns c =
+    simp (
+      c .operand-from2 .ensures,
+      c .before .operand-from .ensures,
+      c .before .before .destination-from .ensures,
+      c .before .before .before .values-at3 .ensures,
+      c .before .before .before .before .values-at2 .ensures,
+      c .before .before .before .before .before .values-at .ensures,
+      c .before .before .before .before .before .before .word .ensures,
+    )
 
 pub token-of-spec : {M : Type 1} → statement M
 token-of-spec =

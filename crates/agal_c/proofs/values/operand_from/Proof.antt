@@ -16,14 +16,25 @@ returns-2 c = simp (ne-eqb _ _ (c .before .before .if1 .left), eq-eqb _ _ (c .if
 
 returns-3 : tie.Need-returns-3
 unfolding operandFrom
-returns-3 c = simp (ne-eqb _ _ (c .before .before .before .before .if1 .left), ne-eqb _ _ (c .before .before .if2 .left), eq-eqb _ _ (c .if3 .taken))
+returns-3 c =
+    simp (
+      ne-eqb _ _ (c .before .before .before .before .if1 .left),
+      ne-eqb _ _ (c .before .before .if2 .left),
+      eq-eqb _ _ (c .if3 .taken),
+    )
 
 sampler-from-requires : tie.Need-sampler-from-requires
 sampler-from-requires c κs = search needs
 
 returns-4 : tie.Need-returns-4
 unfolding operandFrom
-returns-4 c = simp (ne-eqb _ _ (c .before .before .before .before .before .if1 .left), ne-eqb _ _ (c .before .before .before .if2 .left), ne-eqb _ _ (c .before .if3 .left), c .sampler-from .ensures)
+returns-4 c =
+    simp (
+      ne-eqb _ _ (c .before .before .before .before .before .if1 .left),
+      ne-eqb _ _ (c .before .before .before .if2 .left),
+      ne-eqb _ _ (c .before .if3 .left),
+      c .sampler-from .ensures,
+    )
 
 pub operand-from-spec : {M : Type 1} → statement M
 operand-from-spec =
