@@ -131,6 +131,7 @@ static void test_read(void)
     memset(flat, 0xAA, sizeof flat);
     EXPECT(is(agal_read(program, sizeof program, 0, flat, AGAL_FLAT_SIZE - 1), 23, 0, 0, 0, 0));
     EXPECT(is(agal_read(program, sizeof program, 1, flat, 0), 23, 1, 0, 0, 1));
+    EXPECT(is(agal_read(program, sizeof program, 1, NULL, 0), 23, 1, 0, 0, 1));
     EXPECT(is(agal_read(program, sizeof program, 2, flat, sizeof flat), 24, 2, 0, 0, 2));
     EXPECT(is(agal_read(program, sizeof program, SIZE_MAX, flat, sizeof flat), 24, SIZE_MAX, 0, 0, SIZE_MAX));
     EXPECT(is(agal_read(NULL, 0, 0, flat, sizeof flat), 24, 0, 0, 0, 0));
@@ -160,6 +161,7 @@ static void test_line(void)
     EXPECT(is(agal_line(flat, AGAL_FLAT_SIZE - 1, AGAL_FRAGMENT, 2, out, sizeof out), 25, 0, 0, 0, 0));
     EXPECT(is(agal_line(NULL, 0, AGAL_FRAGMENT, 2, NULL, 0), 25, 0, 0, 0, 0));
     EXPECT(is(agal_line(flat, sizeof flat, AGAL_FRAGMENT, 2, out, length - 1), 23, 0, 0, 0, 0));
+    EXPECT(is(agal_line(flat, sizeof flat, AGAL_FRAGMENT, 2, NULL, 0), 23, 0, 0, 0, 0));
     EXPECT(all(out, 0, sizeof out, 0xAA));
     EXPECT(is(agal_line(flat, sizeof flat, AGAL_FRAGMENT, 2, out, sizeof out), 0, 0, 0, 0, length));
     EXPECT(memcmp(out, line, length) == 0);
@@ -177,6 +179,7 @@ static void test_report(void)
     memcpy(input + 1, program, sizeof program);
     memset(out, 0xAA, sizeof out);
     EXPECT(is(agal_report(input, 1 + sizeof program, out, length - 1), 23, 0, 0, 0, 0));
+    EXPECT(is(agal_report(input, 1 + sizeof program, NULL, 0), 23, 0, 0, 0, 0));
     EXPECT(is(agal_report(NULL, 0, NULL, 0), 23, 0, 0, 0, 0));
     EXPECT(all(out, 0, sizeof out, 0xAA));
     EXPECT(is(agal_report(input, 1 + sizeof program, out, sizeof out), 0, 0, 0, 0, length));

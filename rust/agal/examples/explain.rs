@@ -6,7 +6,7 @@ fn main() -> Result<(), Refusal> {
     let sample = include_bytes!("../../../samples/set_on_one_side.agal");
     let program = &sample[1..];
     match check(program, Edition::Agal2) {
-        Ok(accepted) => println!("accepted, {} tokens", accepted.tokens),
+        Ok(accepted) => println!("a {} program of {} tokens", accepted.stage, accepted.tokens),
         Err(refusal) => {
             println!("{refusal}");
             if let Some(token) = tokens(program).nth(refusal.token) {

@@ -2,25 +2,16 @@
 //! bytes on standard input. Without arguments it lists a sample.
 
 use agal::{listing, Edition};
+use std::error::Error;
 use std::io::{self, Read};
 
-fn main() -> io::Result<()> {
-    let Some(edition) = std::env::args().nth(1) else {
+fn main() -> Result<(), Box<dyn Error>> {
+    let Some(number) = std::env::args().nth(1) else {
         let sample = include_bytes!("../../../samples/deviation.agal");
         print!("{}", listing(&sample[1..], Edition::Agal2));
         return Ok(());
     };
-    let edition = match edition.as_str() {
-        "1" => Edition::Agal,
-        "2" => Edition::Agal2,
-        "3" => Edition::Agal3,
-        _ => {
-            return Err(io::Error::new(
-                io::ErrorKind::InvalidInput,
-                "the edition is 1, 2 or 3",
-            ))
-        }
-    };
+    let edition = Edition::try_from(number.parse::<u32>()?)?;
     let mut program = Vec::new();
     io::stdin().read_to_end(&mut program)?;
     print!("{}", listing(&program, edition));

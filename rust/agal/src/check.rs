@@ -2,6 +2,7 @@
 
 use crate::ffi;
 use crate::refusal::Refusal;
+use std::fmt;
 
 /// The edition of the bytecode that a program is judged by.
 #[derive(Clone, Copy, Debug, PartialEq, Eq, Hash)]
@@ -21,6 +22,31 @@ impl Edition {
     }
 }
 
+/// Refused by 1 where there is no such edition.
+///
+/// ```
+/// use agal::Edition;
+///
+/// assert_eq!(Edition::try_from(2), Ok(Edition::Agal2));
+/// assert_eq!(Edition::try_from(4).unwrap_err().number, 1);
+/// ```
+impl TryFrom<u32> for Edition {
+    type Error = Refusal;
+
+    fn try_from(number: u32) -> Result<Self, Refusal> {
+        match number {
+            1 => Ok(Edition::Agal),
+            2 => Ok(Edition::Agal2),
+            3 => Ok(Edition::Agal3),
+            _ => Err(Refusal {
+                number: 1,
+                token: 0,
+                part: 0,
+            }),
+        }
+    }
+}
+
 /// What a program computes for.
 #[derive(Clone, Copy, Debug, PartialEq, Eq, Hash)]
 pub enum Stage {
@@ -28,6 +54,15 @@ pub enum Stage {
     Vertex = 0,
     /// Each fragment.
     Fragment = 1,
+}
+
+impl fmt::Display for Stage {
+    fn fmt(&self, f: &mut fmt::Formatter<'_>) -> fmt::Result {
+        f.write_str(match self {
+            Stage::Vertex => "vertex",
+            Stage::Fragment => "fragment",
+        })
+    }
 }
 
 /// An accepted program.

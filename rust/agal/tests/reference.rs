@@ -3,12 +3,6 @@
 use agal::{Destination, Edition, Operand, Refusal, Sampler, Source, Token};
 use generate::{deep_program, input, program, record, small_program, token_bytes, Rng};
 
-fn edition(number: u32) -> Option<Edition> {
-    [Edition::Agal, Edition::Agal2, Edition::Agal3]
-        .into_iter()
-        .find(|&e| e as u32 == number)
-}
-
 fn refusal(r: reference::Refusal) -> Refusal {
     Refusal {
         number: r.number,
@@ -68,7 +62,7 @@ fn check_and_tokens() {
             1 => deep_program(&mut rng),
             _ => small_program(&mut rng),
         };
-        let Some(edition) = edition(case.edition) else {
+        let Ok(edition) = Edition::try_from(case.edition) else {
             continue;
         };
         let ours = agal::check(&case.program, edition).map(|a| (a.stage as u8, a.tokens));
@@ -126,7 +120,7 @@ fn listing() {
         let Some((digit, program)) = input.split_first() else {
             continue;
         };
-        let Some(edition) = edition(u32::from(digit.wrapping_sub(b'0'))) else {
+        let Ok(edition) = Edition::try_from(u32::from(digit.wrapping_sub(b'0'))) else {
             continue;
         };
         let theirs = String::from_utf8(reference::report(&input)).expect("ASCII");

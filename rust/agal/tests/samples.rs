@@ -19,12 +19,8 @@ fn samples() -> Vec<PathBuf> {
 /// The edition and the program's bytes.
 fn sample(path: &Path) -> (Edition, Vec<u8>) {
     let mut bytes = fs::read(path).expect("a sample");
-    let edition = match bytes.remove(0) {
-        b'1' => Edition::Agal,
-        b'2' => Edition::Agal2,
-        b'3' => Edition::Agal3,
-        other => panic!("edition {other}"),
-    };
+    let number = u32::from(bytes.remove(0) - b'0');
+    let edition = Edition::try_from(number).expect("an edition");
     (edition, bytes)
 }
 
