@@ -2,7 +2,7 @@
  * A verified checker for AGAL shader bytecode: the C interface.
  *
  * The functions here are those of `libagal_c.a` (x86-64 Linux, System V calling convention; `rt staticlib agal_c` makes it). Each is
- * proved to give, for every input, the answer that this file describes.
+ * proved against a contract that gives its answer for all numbers and bytes; this file says the contracts in words.
  *
  * What every function has in common
  *
