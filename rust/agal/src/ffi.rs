@@ -3,11 +3,17 @@
 
 /// What a function answers; the fields are those of `agal_answer`.
 #[repr(C)]
-pub(crate) struct Answer {
+#[derive(Clone, Copy, Debug, PartialEq, Eq)]
+pub struct Answer {
+    /// 0, or the number of the refusal.
     pub number: u8,
+    /// Of a refusal, the part of the token.
     pub part: u8,
+    /// Of the check, the stage.
     pub stage: u8,
+    /// Of a refusal, the token.
     pub token: usize,
+    /// What else is answered: a token count, a place, or how many bytes were written.
     pub value: usize,
 }
 
@@ -34,17 +40,20 @@ extern "C" {
     fn agal_bias(bias: i8) -> f32;
 }
 
-pub(crate) fn check(edition: u32, program: &[u8]) -> Answer {
+/// `agal_check`.
+pub fn check(edition: u32, program: &[u8]) -> Answer {
     // SAFETY: a slice is good for reading over its length.
     unsafe { agal_check(edition, program.as_ptr(), program.len()) }
 }
 
-pub(crate) fn decode(token: &[u8], flat: &mut [u8]) -> Answer {
+/// `agal_decode`.
+pub fn decode(token: &[u8], flat: &mut [u8]) -> Answer {
     // SAFETY: both slices are good over their lengths, and `&mut` rules out that they overlap.
     unsafe { agal_decode(token.as_ptr(), token.len(), flat.as_mut_ptr(), flat.len()) }
 }
 
-pub(crate) fn read(program: &[u8], place: usize, flat: &mut [u8]) -> Answer {
+/// `agal_read`.
+pub fn read(program: &[u8], place: usize, flat: &mut [u8]) -> Answer {
     // SAFETY: as for `decode`.
     unsafe {
         agal_read(
@@ -57,12 +66,14 @@ pub(crate) fn read(program: &[u8], place: usize, flat: &mut [u8]) -> Answer {
     }
 }
 
-pub(crate) fn encode(flat: &[u8], out: &mut [u8]) -> Answer {
+/// `agal_encode`.
+pub fn encode(flat: &[u8], out: &mut [u8]) -> Answer {
     // SAFETY: as for `decode`.
     unsafe { agal_encode(flat.as_ptr(), flat.len(), out.as_mut_ptr(), out.len()) }
 }
 
-pub(crate) fn line(flat: &[u8], stage: u32, depth: u32, out: &mut [u8]) -> Answer {
+/// `agal_line`.
+pub fn line(flat: &[u8], stage: u32, depth: u32, out: &mut [u8]) -> Answer {
     // SAFETY: as for `decode`.
     unsafe {
         agal_line(
@@ -76,12 +87,14 @@ pub(crate) fn line(flat: &[u8], stage: u32, depth: u32, out: &mut [u8]) -> Answe
     }
 }
 
-pub(crate) fn report(input: &[u8], out: &mut [u8]) -> Answer {
+/// `agal_report`.
+pub fn report(input: &[u8], out: &mut [u8]) -> Answer {
     // SAFETY: as for `decode`.
     unsafe { agal_report(input.as_ptr(), input.len(), out.as_mut_ptr(), out.len()) }
 }
 
-pub(crate) fn bias(bias: i8) -> f32 {
+/// `agal_bias`.
+pub fn bias(bias: i8) -> f32 {
     // SAFETY: a number is all that is handed over.
     unsafe { agal_bias(bias) }
 }

@@ -37,6 +37,13 @@ mod record;
 mod refusal;
 mod tokens;
 
+/// The C functions as they are, for tests and measurements: every number as edition, stage, depth and place, and
+/// buffers of every length.
+#[cfg(feature = "raw")]
+pub mod raw {
+    pub use crate::ffi::{bias, check, decode, encode, line, read, report, Answer};
+}
+
 pub use check::{check, Accepted, Edition, Stage};
 pub use listing::listing;
 pub use record::{bias, decode, Destination, Operand, Sampler, Source, Token, TOKEN_SIZE};
