@@ -24,6 +24,11 @@ pub fn hex(bytes: &[u8]) -> String {
     bytes.join(" ")
 }
 
+/// A copy whose last byte is the last of its allocation, so that valgrind sees a read past it.
+pub fn exact(bytes: &[u8]) -> Box<[u8]> {
+    bytes.into()
+}
+
 /// The answer of a call that is not refused.
 pub fn done(value: usize) -> Answer {
     Answer {

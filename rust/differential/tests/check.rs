@@ -2,7 +2,7 @@
 
 use agal::raw::{self, Answer};
 use agal::Edition;
-use differential::{in_full, refused, rounds, safe, Tally};
+use differential::{exact, in_full, refused, rounds, safe, Tally};
 use generate::{deep_program, program, small_program, Case, Rng};
 use reference::registers::token_limit;
 use reference::{check, Accepted, Refusal, MAX_NESTING};
@@ -27,7 +27,7 @@ fn compare(case: &Case) -> Verdict {
             value: accepted.tokens,
         },
     };
-    let answer = raw::check(case.edition, &case.program);
+    let answer = raw::check(case.edition, &exact(&case.program));
     assert_eq!(answer, expected, "{}", case.hex());
     if let Ok(edition) = Edition::try_from(case.edition) {
         let ours = agal::check(&case.program, edition).map(|a| (a.stage as u8, a.tokens));

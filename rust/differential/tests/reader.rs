@@ -1,7 +1,7 @@
 //! The reader, on whole and damaged programs.
 
 use agal::raw::{self, Answer};
-use differential::{flat, plain, refused, rounds, safe, Lent, Tally};
+use differential::{exact, flat, plain, refused, rounds, safe, Lent, Tally};
 use generate::{program, small_program, Case, Rng};
 use reference::{decode, Refusal, Token, TokenReader};
 
@@ -102,6 +102,7 @@ fn programs() {
             let length = rng.below(case.program.len() + 1);
             case.program.truncate(length);
         }
+        case.program = exact(&case.program).into_vec();
         compare_in_turn(&mut rng, &case, &mut in_turn);
         compare_iterator(&case);
         for _ in 0..4 {

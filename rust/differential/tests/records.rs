@@ -1,7 +1,7 @@
 //! Random records through encode and line, with buffers of every length around the limit.
 
 use agal::raw;
-use differential::{done, flat, hex, plain, refused, rounds, safe, Lent, Tally};
+use differential::{done, exact, flat, hex, plain, refused, rounds, safe, Lent, Tally};
 use generate::{record, Rng};
 use reference::{encode, line, Refusal, MAX_LINE_LEN, TOKEN_LEN};
 
@@ -30,9 +30,10 @@ impl Call<'_> {
     /// Compares the answer, and all that stands in a buffer of so many bytes; answers the number.
     fn compare(&self, room: usize, first: u8) -> u8 {
         let mut lent = Lent::new(room, first);
+        let flat = exact(self.flat);
         let answer = match self.line {
-            None => raw::encode(self.flat, lent.part()),
-            Some((stage, depth)) => raw::line(self.flat, stage, depth, lent.part()),
+            None => raw::encode(&flat, lent.part()),
+            Some((stage, depth)) => raw::line(&flat, stage, depth, lent.part()),
         };
         let written = self.written().and_then(|bytes| match bytes.len() {
             length if length > room => Err(plain(23)),

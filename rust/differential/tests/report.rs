@@ -1,7 +1,7 @@
 //! The text that `agallist` prints, on whole inputs.
 
 use agal::{raw, Edition};
-use differential::{done, hex, in_full, plain, refused, rounds, Lent};
+use differential::{done, exact, hex, in_full, plain, refused, rounds, Lent};
 use generate::{input, plain_program, program, Rng};
 use reference::registers::token_limit;
 use reference::report;
@@ -12,7 +12,7 @@ const REPORT_MAX: usize = 262_170;
 /// The text in a buffer of so many bytes.
 fn compare(input: &[u8], text: &[u8], room: usize, first: u8) {
     let mut lent = Lent::new(room, first);
-    let answer = raw::report(input, lent.part());
+    let answer = raw::report(&exact(input), lent.part());
     if room < text.len() {
         assert_eq!(answer, refused(plain(23)), "{}", hex(input));
         assert!(lent.holds(&[]), "written: {}", hex(input));

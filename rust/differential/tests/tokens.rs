@@ -1,7 +1,7 @@
 //! Random tokens through decode, and back through encode.
 
 use agal::raw;
-use differential::{done, flat, hex, plain, refused, rounds, safe, Lent, Tally};
+use differential::{done, exact, flat, hex, plain, refused, rounds, safe, Lent, Tally};
 use generate::{token_bytes, Rng};
 use reference::{bias, decode, Refusal, Sampler, TOKEN_LEN};
 
@@ -17,7 +17,7 @@ fn expected(bytes: &[u8], room: usize) -> Result<[u8; flat::SIZE], Refusal> {
 /// Decodes into a buffer of so many bytes, and compares all that stands there afterwards; answers the number.
 fn compare(bytes: &[u8], room: usize, first: u8) -> u8 {
     let mut lent = Lent::new(room, first);
-    let answer = raw::decode(bytes, lent.part());
+    let answer = raw::decode(&exact(bytes), lent.part());
     match expected(bytes, room) {
         Err(refusal) => {
             assert_eq!(answer, refused(refusal), "{}", hex(bytes));
