@@ -94,14 +94,32 @@ pub fn all() -> String {
         write!(text, "\n## {heading}\n\n{HEAD}").expect("a string");
         for call in Call::ALL {
             for &(words, name) in rows {
-                let is_it = |cost: &&Cost| cost.call == call && cost.case.name == name;
-                let cost = costs.iter().find(is_it).expect("a case of this name");
-                let cells = cost.cells();
+                let cells = found(&costs, name, call).cells();
                 writeln!(text, "| {} | {words} | {cells}", call.name()).expect("a string");
             }
         }
     }
+    text += &growth(&costs);
     text
+}
+
+/// What eight times the tokens take, in instructions.
+fn growth(costs: &[Cost]) -> String {
+    let mut text = String::from("\n## Eight times the tokens\n\n");
+    text += "From 256 to 2,048 tokens the verified code takes\n\n";
+    for call in Call::ALL {
+        let count = |name| found(costs, name, call).instructions;
+        if let Some((few, many)) = count("straight-256").zip(count("straight")) {
+            let (times, call) = (many[0] / few[0], call.name());
+            writeln!(text, "- {times:.2} times the instructions for {call}").expect("a string");
+        }
+    }
+    text
+}
+
+fn found<'a>(costs: &'a [Cost], name: &str, call: Call) -> &'a Cost {
+    let is_it = |cost: &&Cost| cost.call == call && cost.case.name == name;
+    costs.iter().find(is_it).expect("a cost for each case")
 }
 
 fn measured() -> Vec<Cost> {

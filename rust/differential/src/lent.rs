@@ -37,3 +37,19 @@ impl Lent {
 fn pattern(at: usize, first: u8) -> u8 {
     (at as u8).wrapping_mul(37).wrapping_add(first)
 }
+
+#[cfg(test)]
+mod tests {
+    use super::*;
+
+    #[test]
+    fn every_byte_counts() {
+        for place in 0..10 + MARGIN {
+            let mut lent = Lent::new(10, 7);
+            lent.part()[..4].copy_from_slice(&[0; 4]);
+            assert!(lent.holds(&[0; 4]) && !lent.holds(&[0; 3]) && !lent.holds(&[]));
+            lent.bytes[place] ^= 1;
+            assert!(!lent.holds(&[0; 4]), "{place}");
+        }
+    }
+}

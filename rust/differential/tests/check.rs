@@ -127,7 +127,7 @@ fn programs() {
         extremes.count(&case, &verdict);
     }
     assert!(tally.total() >= 200_000 || !in_full());
-    assert!(tally.accepted() > programs / 3);
+    assert!(tally.accepted() > programs / 2);
     tally.is_full(1..=22);
     extremes.are_met();
 }
@@ -154,7 +154,7 @@ fn all_ways_of_deep_programs() {
     }
 }
 
-/// Every program of a header and a token of which one byte differs from a token that is accepted.
+/// Every value of every byte of programs that have a header and a token.
 #[test]
 fn every_byte_of_a_token() {
     let mut rng = Rng::new(24);

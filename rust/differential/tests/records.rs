@@ -150,12 +150,22 @@ fn records_of_the_crate() {
             line: None,
         };
         let ours = safe::token(made).encode().map(|bytes| bytes.to_vec());
-        assert_eq!(ours, call.written().map_err(safe::refusal), "{made:?}");
+        assert_eq!(
+            ours,
+            call.written().map_err(safe::refusal),
+            "{}",
+            hex(&flat)
+        );
 
         let depth = rng.below(18) as u32;
         let stage = rng.pick(&[agal::Stage::Vertex, agal::Stage::Fragment]);
         call.line = Some((stage as u32, depth));
         let ours = safe::token(made).line(stage, depth).map(String::into_bytes);
-        assert_eq!(ours, call.written().map_err(safe::refusal), "{made:?}");
+        assert_eq!(
+            ours,
+            call.written().map_err(safe::refusal),
+            "{}",
+            hex(&flat)
+        );
     }
 }

@@ -36,7 +36,8 @@ fn compare_back(bytes: &[u8; TOKEN_LEN], first: u8) {
     let mut flat = [0; flat::SIZE];
     if raw::decode(bytes, &mut flat).number == 0 {
         let mut lent = Lent::new(TOKEN_LEN, first);
-        assert_eq!(raw::encode(&flat, lent.part()), done(TOKEN_LEN));
+        let answer = raw::encode(&flat, lent.part());
+        assert_eq!(answer, done(TOKEN_LEN), "{}", hex(bytes));
         assert!(lent.holds(bytes), "not the same: {}", hex(bytes));
     }
 }
