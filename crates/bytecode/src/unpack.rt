@@ -77,22 +77,18 @@ pub fn unpack_direct(field: u64) -> DirectSource
     }
 }
 
+// An indexed source has the same rows as a direct one.
 pub fn unpack_indexed(field: u64) -> IndexedSource
     ensures { λ r. ⌜ r ≡ indexedOf field ⌝ }
 {
-    let number = number_of(field);
-    let offset = offset_of(field);
-    let swizzle = swizzle_of(field);
-    let kind = kind_of(field);
-    let index_kind = index_kind_of(field);
-    let component = component_of(field);
+    let same = unpack_direct(field);
     IndexedSource {
-        number,
-        offset,
-        swizzle,
-        kind,
-        index_kind,
-        component,
+        number: same.number,
+        offset: same.offset,
+        swizzle: same.swizzle,
+        kind: same.kind,
+        index_kind: same.index_kind,
+        component: same.component,
     }
 }
 
