@@ -3,13 +3,13 @@
 use Prim.Native.Nat.{ℕ, _<_, _≤_}
 use mathlib.Core.Bool.{Bool, true, false, cond}
 use mathlib.Core.List.{List, _++_}
-use mathlib.Core.Path.{_≡_, refl, sym, _∙_}
+use mathlib.Core.Path.{_≡_, refl}
 use native.Mathlib.Omega.{arith}
 use lib.Dec.{eqb, ltb}
 use lib.ListN.{length, drop}
 use borrow.Author.Tests.{lt-ltb, le-ltb, ltb-false}
 use Rattle.bytecode.specs.Decode.{refusal, noRefusal}
-use Rattle.bytecode.specs.Encode.{packed, packedToken, isEncodable, tokenFields, tokenBytes, encodeFault, encodeOf, afterEncode, Encodes}
+use Rattle.bytecode.specs.Encode.{packed, packedToken, isEncodable, tokenBytes, encodeFault, encodeOf, afterEncode, Encodes}
 use Rattle.bytecode.specs.declared.fields.Fields.{Fields}
 use Rattle.bytecode.specs.declared.pack.Packed.the-variants.{Field, Unfit}
 use Rattle.bytecode.specs.declared.pack.PackedToken.the-variants.{Fields as AllFields, Unfit as NoFields}

@@ -1,7 +1,7 @@
 -- Finite floats and whole numbers that a test finds equal are equal.
 -- Assumes nothing.
 use mathlib.Core.Path.{_≡_}
-use mathlib.Core.Bool.{Bool, true, false, _&&_, Bool·beq}
+use mathlib.Core.Bool.{Bool, false, _&&_, Bool·beq}
 use lib.Dec.{T, eqb, eqb→eq}
 use lib.Ieee.{Float, nan, inf, fin}
 use Rattle.laws.specs.Tests.{eqZ}

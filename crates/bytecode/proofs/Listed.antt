@@ -6,7 +6,7 @@ use mathlib.Core.List.{List, [], _∷_, _++_}
 use mathlib.Core.Path.{_≡_, _∙_, refl, sym, ap}
 use native.Mathlib.Decide.{decLt}
 use native.Mathlib.Omega.{arith}
-use lib.Dec.{T, ltb, eqb, ltb→lt}
+use lib.Dec.{T, ltb, ltb→lt}
 use borrow.Author.Tests.{ne-eqb}
 use Rattle.bytecode.specs.Opcodes.{isIn, firstOpcodes, addedOpcodes, rowOf, shapeOfRow, shapeOf}
 use Rattle.laws.proofs.Every.{both-left, both-right}

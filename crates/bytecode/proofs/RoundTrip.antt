@@ -1,15 +1,14 @@
 -- The round trip, both ways: bytes that decode does not refuse encode to themselves, and records that encode does not refuse decode to
 -- themselves.
 -- Assumes nothing.
-use Prim.Native.Nat.{ℕ, _^_, _≤_, _<_}
+use Prim.Native.Nat.{ℕ, _^_, _<_}
 use mathlib.Core.Bool.{Bool, true, false, _&&_}
 use mathlib.Core.List.{List, _++_}
 use mathlib.Core.Path.{_≡_, refl, _∙_, sym, ap}
-use native.Mathlib.Decide.{decLt}
 use native.Mathlib.Omega.{arith}
 use lib.Bits.{and-zero-r}
 use lib.Dec.{T, lit<}
-use lib.ListN.{length, take, drop}
+use lib.ListN.{take, drop}
 use lib.Seq.{take-at}
 use lib.Pow.{areBytes}
 use Rattle.bytecode.specs.Opcodes.{shapeOf}
@@ -17,11 +16,10 @@ use Rattle.bytecode.specs.Layout.{destinationBits, operandBits, isStray}
 use Rattle.bytecode.specs.Fields.{fieldsOf, bytesOf}
 use Rattle.bytecode.specs.Records.{destinationOf, operandOf, tokenOf}
 use Rattle.bytecode.specs.Decode.{noRefusal, tokenFault, decodeOf}
-use Rattle.bytecode.specs.Encode.{destinationFits, destinationField, operandFits, operandField, isEncodable, tokenFields, tokenBytes, encodeFault, encodeOf, afterEncode}
+use Rattle.bytecode.specs.Encode.{destinationFits, destinationField, operandFits, operandField, isEncodable, tokenFields, tokenBytes}
 use Rattle.bytecode.specs.RoundTrip.{RoundTrip}
 use Rattle.bytecode.specs.declared.opcodes.OperandShape.{OperandShape}
 use Rattle.bytecode.specs.declared.opcodes.OperandShape.the-variants.{Unused as NoField, Source as SourceField, Sampler as SamplerField}
-use Rattle.bytecode.specs.declared.opcodes.Shape.{Shape}
 use Rattle.bytecode.specs.declared.fields.Fields.{Fields}
 use Rattle.bytecode.specs.declared.record.Destination.{Destination}
 use Rattle.bytecode.specs.declared.record.Destination.the-variants.{Unused as NoDestination, Masked}
@@ -29,7 +27,6 @@ use Rattle.bytecode.specs.declared.record.Operand.{Operand}
 use Rattle.bytecode.specs.declared.record.Operand.the-variants.{Unused as NoOperand, Direct, Indexed, Sampler as Sampled}
 use Rattle.bytecode.specs.declared.record.Token.{Token}
 use Rattle.bytecode.specs.declared.answers.Decoded.the-variants.{Token as Accepted}
-use Rattle.bytecode.specs.declared.answers.Encoded.the-variants.{Written}
 use Rattle.bytecode.proofs.DecodeLaws.{Clean, clean, clean-none, accepted, no-faults}
 use Rattle.bytecode.proofs.EncodeLaws.{written, was-written}
 use Rattle.bytecode.proofs.RegisterAgain.{register-fits, register-again, register-of, register-clean, register-small}

@@ -1,6 +1,6 @@
 -- The defined bits of a field are the bits of its rows: masking with them keeps each row's value at its place and nothing else.
 -- Assumes nothing.
-use Prim.Native.Nat.{ℕ, zero, _+_, _-_, _*_, _/_, _%_, _^_, _≤_, _<_}
+use Prim.Native.Nat.{ℕ, _+_, _-_, _*_, _/_, _%_, _^_, _≤_, _<_}
 use mathlib.Core.List.{List, [], _∷_}
 use mathlib.Core.Path.{_≡_, refl, _∙_, sym, ap, ap₂}
 use native.Mathlib.Nat.{add-comm, add-zero, zero-add, zero-mul, add-mul, mul-assoc, mod-lt, mul-lt-mul-of-pos-right, lt-of-lt-of-le}

@@ -2,12 +2,11 @@
 -- Assumes nothing.
 use Prim.Native.Nat.{ℕ}
 use mathlib.Core.Bool.{Bool, true, false, not, cond}
-use mathlib.Core.Path.{_≡_, refl, _∙_, sym, ap}
+use mathlib.Core.Path.{_≡_, refl, _∙_, ap}
 use lib.Dec.{eqb}
 use Rattle.bytecode.specs.Layout as layout
 use Rattle.bytecode.specs.Layout.{valueOf}
 use Rattle.bytecode.specs.Records.{isIndexed, directOf, indexedOf, sourceOf}
-use Rattle.bytecode.specs.declared.record.Operand.{Operand}
 use Rattle.bytecode.specs.declared.record.Operand.the-variants.{Direct, Indexed}
 
 by-indexed : (f : ℕ) → sourceOf f ≡ cond (isIndexed f) (Indexed (indexedOf f)) (Direct (directOf f))

@@ -1,7 +1,6 @@
 -- Fields and their bytes determine each other.
 -- Assumes nothing.
 use Prim.Native.Nat.{ℕ, zero, suc, _+_, _*_, _/_, _%_, _^_, _<_}
-use mathlib.Core.Bool.{_&&_}
 use mathlib.Core.List.{List, [], _∷_, _++_}
 use mathlib.Core.Path.{_≡_, refl, _∙_, sym, ap}
 use native.Mathlib.Nat.{add-zero}
@@ -9,7 +8,7 @@ use native.Mathlib.Omega.{arith}
 use lib.Dec.{T, ltb, ltb→lt, lit<}
 use lib.ListN.{length, getD}
 use lib.Pow.{areBytes}
-use Rattle.bytecode.specs.Layout.{wordAt, longAt, wordBytes}
+use Rattle.bytecode.specs.Layout.{wordAt, wordBytes}
 use Rattle.bytecode.specs.Fields.{fieldsOf, bytesOf}
 use Rattle.bytecode.specs.declared.fields.Fields.{Fields}
 use Rattle.laws.proofs.Every.{both-left, both-right}

@@ -1,5 +1,5 @@
 -- Document 01, "Layout": the bias as a 32-bit float is exactly b/8; b = 0 gives positive zero.
-use Prim.Native.Nat.{ℕ, suc, _*_}
+use Prim.Native.Nat.{suc, _*_}
 use mathlib.Core.Bool.{Bool, true, false, not, _&&_}
 use mathlib.Core.Path.{_≡_}
 use lib.Dec.{T, eqb}

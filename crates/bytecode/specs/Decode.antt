@@ -1,6 +1,6 @@
 -- Document 01: the faults that decode gives, 24, then 9, 12, 13, and the record where there is none.
 use Prim.Native.Nat.{ℕ}
-use mathlib.Core.Bool.{Bool, true, false, not, cond, _&&_, _||_}
+use mathlib.Core.Bool.{Bool, not, cond, _&&_, _||_}
 use mathlib.Core.List.{List}
 use mathlib.Core.Path.{_≡_}
 use lib.Dec.{eqb}
@@ -11,7 +11,6 @@ use Rattle.bytecode.specs.Fields.{fieldsOf}
 use Rattle.bytecode.specs.Records.{tokenOf}
 use Rattle.bytecode.specs.declared.opcodes.Shape.{Shape}
 use Rattle.bytecode.specs.declared.fields.Fields.{Fields}
-use Rattle.bytecode.specs.declared.record.Token.{Token}
 use Rattle.bytecode.specs.declared.answers.Refusal.{Refusal}
 use Rattle.bytecode.specs.declared.answers.Decoded.{Decoded}
 use Rattle.bytecode.specs.declared.answers.Examined.{Examined}

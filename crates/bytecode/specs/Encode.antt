@@ -13,7 +13,6 @@ use Rattle.bytecode.specs.Fields.{bytesOf}
 use Rattle.bytecode.specs.Decode.{refusal, noRefusal}
 use Rattle.bytecode.specs.declared.opcodes.OperandShape.{OperandShape}
 use Rattle.bytecode.specs.declared.opcodes.OperandShape.the-variants.{Unused as NoField, Source as SourceField, Sampler as SamplerField}
-use Rattle.bytecode.specs.declared.opcodes.Shape.{Shape}
 use Rattle.bytecode.specs.declared.fields.Fields.{Fields}
 use Rattle.bytecode.specs.declared.pack.Packed.{Packed}
 use Rattle.bytecode.specs.declared.pack.Packed.the-variants.{Field, Unfit}
@@ -22,8 +21,6 @@ use Rattle.bytecode.specs.declared.pack.PackedToken.the-variants.{Fields
 use Rattle.bytecode.specs.declared.record.MaskedRegister.{MaskedRegister}
 use Rattle.bytecode.specs.declared.record.Destination.{Destination}
 use Rattle.bytecode.specs.declared.record.Destination.the-variants.{Unused as NoDestination, Masked}
-use Rattle.bytecode.specs.declared.record.DirectSource.{DirectSource}
-use Rattle.bytecode.specs.declared.record.IndexedSource.{IndexedSource}
 use Rattle.bytecode.specs.declared.record.Sampler.{Sampler}
 use Rattle.bytecode.specs.declared.record.Operand.{Operand}
 use Rattle.bytecode.specs.declared.record.Operand.the-variants.{Unused as NoOperand, Direct, Indexed, Sampler as Sampled}

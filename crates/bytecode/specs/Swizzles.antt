@@ -1,5 +1,5 @@
 -- Document 01, "Layout": swizzle bits 0-1 choose for x, bits 6-7 for w, so E4 is xyzw; and the set of components that a swizzle names.
-use Prim.Native.Nat.{ℕ, _+_, _*_, _/_, _%_, _^_}
+use Prim.Native.Nat.{ℕ, _+_, _/_, _%_, _^_}
 use mathlib.Core.Bool.{Bool, cond, _||_}
 use lib.Dec.{eqb}
 

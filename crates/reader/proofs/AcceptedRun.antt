@@ -1,10 +1,9 @@
 -- Whoever opens an accepted program and reads on is given its tokens in order, and then 24 for ever.
 -- Assumes nothing.
-use Prim.Native.Nat.{ℕ, zero, suc, _+_, _<_}
+use Prim.Native.Nat.{ℕ, zero, suc, _+_}
 use mathlib.Core.List.{List}
-use mathlib.Core.Path.{_≡_, refl, _∙_, sym, ap}
+use mathlib.Core.Path.{_≡_, _∙_, sym, ap}
 use native.Mathlib.Omega.{arith}
-use lib.ListN.{length}
 use denote.Ref.{RefT, now}
 use Rattle.bytecode.specs.declared.record.Token.{Token}
 use Rattle.verifier.specs.Order.{recordOf, tokenAt}

@@ -1,12 +1,11 @@
 -- The count of what is in the table, by the place of its edition; and of what is not: 0.
 -- Assumes nothing.
 use Prim.Native.Nat.{ℕ, zero, suc, _-_, _≤_, _<_}
-use mathlib.Core.Bool.{_&&_}
-use mathlib.Core.List.{List, [], _∷_}
-use mathlib.Core.Path.{_≡_, refl, ap}
+use mathlib.Core.List.{List, []}
+use mathlib.Core.Path.{_≡_, refl}
 use native.Mathlib.Decide.{decLt}
 use native.Mathlib.Omega.{arith}
-use lib.Dec.{T, leb, leb→le, lit≤}
+use lib.Dec.{leb, leb→le, lit≤}
 use lib.ListN.{length, getD, List·getD-eq-default}
 use Rattle.laws.specs.Tests.{every}
 use Rattle.laws.proofs.Every.{below}

@@ -1,5 +1,5 @@
 -- A program never loses registers where the edition rises.
-use Prim.Native.Nat.{ℕ, _+_, _≤_}
+use Prim.Native.Nat.{ℕ, _≤_}
 use Rattle.registers.specs.Counts.{countOf}
 
 -- from edition 1 to 2 and from 2 to 3, for every kind and stage

@@ -1,11 +1,11 @@
 -- The opcodes that later editions add are a run of numbers.
 -- Assumes nothing.
 use Prim.Native.Nat.{ℕ, _<_}
-use mathlib.Core.Bool.{Bool, true, false, _&&_, Bool·beq}
-use mathlib.Core.Path.{_≡_, refl}
+use mathlib.Core.Bool.{_&&_, Bool·beq}
+use mathlib.Core.Path.{_≡_}
 use native.Mathlib.Decide.{decLt}
 use native.Mathlib.Omega.{arith}
-use lib.Dec.{T, leb, ltb}
+use lib.Dec.{leb, ltb}
 use borrow.Author.Tests.{le-leb, le-ltb, ne-eqb}
 use Rattle.bytecode.specs.Opcodes.{isIn, addedOpcodes}
 use Rattle.laws.proofs.Every.{below, same→eq}

@@ -1,10 +1,10 @@
 -- The first fault of a token, stage by stage.
 -- Assumes nothing.
-use Prim.Native.Nat.{ℕ, zero, suc, _≤_}
+use Prim.Native.Nat.{ℕ, zero, suc}
 use mathlib.Core.Bool.{Bool, true, false, cond}
 use mathlib.Core.List.{List, [], _∷_, _++_}
 use mathlib.Core.Option.{Option, none, some, Option·some-ne-none}
-use mathlib.Core.Path.{_≡_, refl, _∙_, sym, ap}
+use mathlib.Core.Path.{_≡_, refl, _∙_, ap}
 use lib.Dec.{eqb·suc-zero}
 use Rattle.bytecode.specs.Decode.{refusal}
 use Rattle.bytecode.specs.declared.record.Operand.{Operand}
@@ -14,7 +14,7 @@ use Rattle.paths.specs.Paths.{TokenFault}
 use Rattle.paths.specs.Reads.{rowCount2}
 use Rattle.verifier.specs.Rules.{destinationWrong, maskWrong, indexedWrong, directWrong, samplerWrong}
 use Rattle.verifier.specs.Profile.{countIn}
-use Rattle.verifier.specs.Order.{Rule, rule, firstFault, sourceRules, recordRules}
+use Rattle.verifier.specs.Order.{Rule, firstFault, sourceRules}
 use Rattle.verifier.specs.Faults.{numberOf, refusalAt, swizzleWrong, sourcesFault, recordFault}
 use Rattle.verifier.specs.declared.profile.Profile.{Profile}
 

@@ -1,13 +1,13 @@
 -- The faults of the header: their numbers, and what follows where there is one and where there is none.
 -- Assumes nothing.
-use Prim.Native.Nat.{ℕ, zero, suc, _≤_, _<_}
+use Prim.Native.Nat.{ℕ, _≤_, _<_}
 use mathlib.Core.Bool.{Bool, true, false, cond}
 use mathlib.Core.List.{List, [], _∷_}
 use mathlib.Core.Option.{Option, none, some, Option·none-ne-some}
-use mathlib.Core.Path.{_≡_, refl, sym, _∙_}
+use mathlib.Core.Path.{_≡_, refl, sym}
 use native.Mathlib.Omega.{arith}
 use native.Mathlib.Decide.{decLt}
-use lib.Dec.{lit≤, ltb}
+use lib.Dec.{lit≤}
 use lib.ListN.{length}
 use borrow.Author.Tests.{lt-ltb}
 use Rattle.paths.specs.Paths.{TokenFault}

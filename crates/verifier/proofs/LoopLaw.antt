@@ -1,26 +1,23 @@
 -- The loop of the check: where it starts, one turn of it, and where it ends.
 -- Assumes nothing.
 use Prim.Native.Nat.{ℕ, zero, suc, _+_, _-_, _*_, _/_, _%_, _^_, _≤_, _<_}
-use mathlib.Core.Bool.{Bool, true, false, not, cond, _&&_}
-use mathlib.Core.List.{List, [], _∷_}
+use mathlib.Core.Bool.{Bool, true, false, cond, _&&_}
+use mathlib.Core.List.{List, []}
 use mathlib.Core.Path.{_≡_, refl, _∙_, sym, ap, ap₂, subst, subst⁻¹, fun-ext}
 use native.Mathlib.Nat.{zero-div}
 use native.Mathlib.Numerals.{add-one}
 use native.Mathlib.Omega.{arith}
 use lib.Dec.{eqb, ltb}
-use lib.ListN.{length, getD, take, drop, length-take, length-drop}
+use lib.ListN.{length, take, drop, length-take, length-drop}
 use borrow.Author.Tests.{eq-eqb, ne-eqb}
-use Rattle.bytecode.specs.declared.answers.Refusal.{Refusal}
-use Rattle.registers.specs.Counts.{countOf}
 use Rattle.paths.specs.Unwritten.{nothing}
 use Rattle.paths.specs.Reads.{bitOf}
 use Rattle.paths.specs.Written.{componentSet, registersOf}
 use Rattle.paths.specs.Faults as faults
-use Rattle.paths.specs.Check as check
 use Rattle.paths.specs.Check.{start, ending, checkFrom, verdictOf}
 use Rattle.verifier.specs.Rules.{stageOf, tokenCount}
 use Rattle.verifier.specs.Profile.{profileOf}
-use Rattle.verifier.specs.Order.{pathTokenAt, tokenAt, tokensFrom, tokensOf}
+use Rattle.verifier.specs.Order.{tokenAt, tokensFrom, tokensOf}
 use Rattle.verifier.specs.State.{noneWritten, startState, topOf, withTop}
 use Rattle.verifier.specs.Step.{stepOf}
 use Rattle.verifier.specs.Verdict.{answerOf}

@@ -1,24 +1,20 @@
 -- The next state of the code stands for the next state of the check over paths.
 -- Assumes nothing.
-use Prim.Native.Nat.{ℕ, zero, suc, _+_, _-_, _≤_, _<_}
-use mathlib.Core.Bool.{Bool, true, false, cond, _&&_, _||_, or-false, true≢false}
-use mathlib.Core.List.{List, [], _∷_}
-use mathlib.Core.Option.{none}
+use Prim.Native.Nat.{ℕ, zero, suc, _+_, _-_, _<_}
+use mathlib.Core.Bool.{Bool, true, false, cond, _||_, or-false, true≢false}
+use mathlib.Core.List.{List}
 use mathlib.Core.Path.{_≡_, refl, _∙_, sym, ap, ap₂, subst⁻¹, fun-ext}
 use native.Mathlib.Numerals.{add-one}
 use native.Mathlib.Omega.{arith}
-use lib.Dec.{eqb, ltb, leb}
-use lib.ListN.{length, getD, set, length-set}
-use borrow.Author.Tests.{lt-ltb, le-ltb, lt-leb, leb-false}
-use Rattle.bytecode.specs.declared.record.MaskedRegister.{MaskedRegister}
+use lib.Dec.{eqb}
+use lib.ListN.{getD, set, length-set}
+use borrow.Author.Tests.{lt-ltb, le-ltb, leb-false}
 use Rattle.bytecode.specs.declared.record.Destination.{Destination}
 use Rattle.bytecode.specs.declared.record.Destination.the-variants.{Unused as NoDestination, Masked}
-use Rattle.bytecode.specs.declared.record.Token.{Token}
-use Rattle.paths.specs.Paths.{Flow, plain, opener, els, eif}
+use Rattle.paths.specs.Paths.{Flow, opener}
 use Rattle.paths.specs.Nesting.{branchesAfter}
 use Rattle.paths.specs.Unwritten.{ComponentSet, adds}
 use Rattle.paths.specs.Reads.{writesInto, temporaries}
-use Rattle.paths.specs.Tokens.{pathTokenOf}
 use Rattle.paths.specs.Written.{componentSet, joinOf, markOf}
 use Rattle.paths.specs.Check as check
 use Rattle.paths.specs.Check.{currentAt, keptAt, keptAfter}
@@ -30,8 +26,8 @@ use Rattle.verifier.specs.declared.state.Flow.the-variants.{Plain, Opene
 use Rattle.verifier.specs.declared.state.Branch.{Branch}
 use Rattle.verifier.specs.declared.state.State.{State}
 use Rattle.verifier.specs.declared.state.Top.{Top}
-use Rattle.verifier.proofs.Abstract.{branchOf, keptOf, branchesIn, keptIn, abstractOf, flowIs, Valid, slot-of, slot-stays, own-top, inside, outside}
-use Rattle.verifier.proofs.Stack.{stackOf, stored-own, over}
+use Rattle.verifier.proofs.Abstract.{branchOf, keptOf, keptIn, abstractOf, flowIs, Valid, slot-of, slot-stays, own-top, inside, outside}
+use Rattle.verifier.proofs.Stack.{stored-own, over}
 
 -- ---- the write
 

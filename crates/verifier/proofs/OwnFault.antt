@@ -1,15 +1,14 @@
 -- The fault that the code finds in a token by itself is the first of 9 to 19.
 -- Assumes nothing.
-use Prim.Native.Nat.{ℕ, zero, suc, _+_, _*_, _≤_, _<_}
-use mathlib.Core.Bool.{Bool, true, false, not, cond, _||_, true≢false}
+use Prim.Native.Nat.{ℕ, _≤_}
+use mathlib.Core.Bool.{Bool, true, false, not, cond}
 use mathlib.Core.List.{List, [], _∷_, _++_}
-use mathlib.Core.Option.{Option, none, some, Option·none-ne-some}
-use mathlib.Core.Path.{_≡_, refl, _∙_, sym, ap, subst, fun-ext}
-use native.Mathlib.Decide.{decLt}
+use mathlib.Core.Option.{Option, some, Option·none-ne-some}
+use mathlib.Core.Path.{_≡_, refl, _∙_, sym, ap}
 use native.Mathlib.Omega.{arith}
-use lib.Dec.{eqb, ltb, leb, leb→le, lit≤}
+use lib.Dec.{eqb, ltb, lit≤}
 use lib.ListN.{length, getD}
-use borrow.Author.Tests.{le-leb, not-false, leb-false, ltb-false}
+use borrow.Author.Tests.{not-false}
 use Rattle.bytecode.specs.Opcodes.{shapeOf}
 use Rattle.bytecode.specs.Fields.{fieldsOf}
 use Rattle.bytecode.specs.Records.{tokenOf}
@@ -22,15 +21,13 @@ use Rattle.bytecode.specs.declared.record.Token.{Token}
 use Rattle.bytecode.proofs.DecodeLaws.{accepted, none-broken, was-refused}
 use Rattle.bytecode.proofs.Listed.{listed-below}
 use Rattle.registers.specs.Counts.{countOf}
-use Rattle.registers.proofs.Outside.{outside-kind}
 use Rattle.paths.specs.Paths.{TokenFault}
 use Rattle.paths.specs.Reads.{rowCount2}
 use Rattle.verifier.specs.Rules.{opcodeTooNew, opcodeNotForStage, selectorsDiffer, matrixSwizzled}
 use Rattle.verifier.specs.Profile.{profileOf, countIn}
-use Rattle.verifier.specs.Order.{Rule, rule, firstFault, sourceRules, recordRules, tokenRules, recordOf}
+use Rattle.verifier.specs.Order.{Rule, firstFault, sourceRules, recordRules, tokenRules, recordOf}
 use Rattle.verifier.specs.Faults.{refusalAt, recordFault, ownFault, undecodedFault}
 use Rattle.verifier.proofs.Packed.{counts-are}
-use Rattle.verifier.proofs.FaultLaws.{orElse, first-append}
 
 -- ---- numbers 9 to 19
 

@@ -1,10 +1,10 @@
 -- The counts that a profile keeps in one number are those of the table.
 -- Assumes nothing.
-use Prim.Native.Nat.{ℕ, zero, suc, _+_, _*_, _/_, _%_, _^_, _≤_, _<_}
+use Prim.Native.Nat.{ℕ, zero, suc, _/_, _%_, _<_}
 use mathlib.Core.Path.{_≡_, _∙_, sym, fun-ext}
 use native.Mathlib.Decide.{decLt}
 use native.Mathlib.Omega.{arith}
-use lib.Dec.{leb, ltb, ltb→lt}
+use lib.Dec.{ltb, ltb→lt}
 use borrow.Author.Tests.{le-leb}
 use Rattle.laws.specs.Tests.{every}
 use Rattle.laws.proofs.Every.{below}

@@ -1,51 +1,41 @@
 -- One step of the code is one token of the check over paths.
 -- Assumes nothing.
-use Prim.Native.Nat.{ℕ, zero, suc, _≤_, _<_}
-use mathlib.Core.Bool.{Bool, true, false, not, cond, _||_, _&&_}
-use mathlib.Core.List.{List, [], _∷_}
-use mathlib.Core.Option.{Option, none, some}
+use Prim.Native.Nat.{ℕ, suc, _≤_}
+use mathlib.Core.Bool.{Bool, true, false, not, cond, _||_}
+use mathlib.Core.List.{List, _∷_}
+use mathlib.Core.Option.{none}
 use mathlib.Core.Path.{_≡_, refl, _∙_, sym, ap, subst}
 use native.Mathlib.Decide.{decLt}
 use native.Mathlib.Omega.{arith}
-use lib.Dec.{T, eqb, leb, ltb, leb→le}
-use lib.ListN.{length, getD}
-use borrow.Author.Tests.{eq-eqb, ne-eqb, eqb-true, leb-false}
-use Rattle.bytecode.specs.Decode.{refusal, noRefusal, decodeOf}
-use Rattle.bytecode.specs.declared.answers.Refusal.{Refusal}
-use Rattle.bytecode.specs.declared.answers.Decoded.{Decoded}
-use Rattle.bytecode.specs.declared.answers.Decoded.the-variants.{Token as Accepted, Refused}
+use lib.Dec.{eqb, leb, leb→le}
+use borrow.Author.Tests.{leb-false}
+use Rattle.bytecode.specs.Decode.{refusal, noRefusal}
 use Rattle.bytecode.specs.declared.record.Destination.{Destination}
 use Rattle.bytecode.specs.declared.record.Destination.the-variants.{Unused as NoDestination, Masked}
 use Rattle.bytecode.specs.declared.record.Token.{Token}
-use Rattle.bytecode.proofs.DecodeLaws.{was-refused}
 use Rattle.registers.specs.Counts.{countOf}
 use Rattle.registers.specs.Uses.{isWritable}
 use Rattle.registers.proofs.Outside.{outside-stage, outside-edition}
 use Rattle.laws.specs.Tests.{every}
 use Rattle.laws.proofs.Every.{below}
-use Rattle.paths.specs.Paths.{TokenFault, PathToken, source1, source2}
+use Rattle.paths.specs.Paths.{PathToken}
 use Rattle.paths.specs.Nesting.{misplaced}
-use Rattle.paths.specs.Faults.{Answer, accepted, refused}
+use Rattle.paths.specs.Faults.{Answer, refused}
 use Rattle.paths.specs.Reads.{reads1, reads2, writesInto, temporaries}
 use Rattle.paths.specs.Tokens.{flowOf, pathTokenOf}
 use Rattle.paths.specs.Access.{access1Of, access2Of}
 use Rattle.paths.specs.Unwritten.{adds}
 use Rattle.paths.specs.Written.{componentSet}
-use Rattle.paths.specs.Check as check
 use Rattle.paths.specs.Check.{judge, lacks, setBefore, nextState, currentAt, checkFrom}
 use Rattle.paths.proofs.AccessLaws.{lacks-reads1, lacks-reads2}
 use Rattle.verifier.specs.Rules.{destinationWrong}
-use Rattle.verifier.specs.Profile.{profileOf}
-use Rattle.verifier.specs.Order.{firstFault, tokenRules, recordOf, pathTokenAt}
-use Rattle.verifier.specs.Faults.{refusalAt, ownFault, undecodedFault}
 use Rattle.verifier.specs.State.{flowOfCode, topOf, withTop, isMisplaced, metTop, partedTop}
-use Rattle.verifier.specs.Step.{stepped, lacksAccess, nextOf, followOf, takeOf, decidedOf, stepOf}
+use Rattle.verifier.specs.Step.{stepped, lacksAccess, nextOf, followOf}
 use Rattle.verifier.specs.declared.state.Flow as code
 use Rattle.verifier.specs.declared.state.State.{State}
 use Rattle.verifier.specs.declared.step.Stepped.{Stepped}
-use Rattle.verifier.proofs.Abstract.{abstractOf, branchesIn, keptIn, flowIs, flow-is, misplaced-is, Valid, valid-own}
+use Rattle.verifier.proofs.Abstract.{abstractOf, branchesIn, keptIn, flow-is, misplaced-is, Valid, valid-own}
 use Rattle.verifier.proofs.NextState.{Kept, wrote-is, nextAbstract, follows}
-use Rattle.verifier.proofs.OwnFault.{token-numbered, refused-fault, taken-fault}
 
 -- what a step means for the answer: its fault, or what the tokens that are left make of the next state
 abbrev pub after : State → Stepped → ℕ → List PathToken → Answer

@@ -1,15 +1,15 @@
 -- One step of the code on the bytes of a token is one token of the check over paths.
 -- Assumes nothing.
-use Prim.Native.Nat.{ℕ, suc, _≤_}
-use mathlib.Core.Bool.{Bool, true, false, not, cond}
-use mathlib.Core.List.{List, [], _∷_}
+use Prim.Native.Nat.{ℕ}
+use mathlib.Core.Bool.{Bool, true, false, cond}
+use mathlib.Core.List.{List, _∷_}
 use mathlib.Core.Option.{Option, none, some}
 use mathlib.Core.Path.{_≡_, refl, _∙_, sym, ap, subst}
 use native.Mathlib.Omega.{arith}
 use lib.Dec.{eqb, ltb}
 use lib.ListN.{length, getD}
 use borrow.Author.Tests.{eq-eqb, ne-eqb}
-use Rattle.bytecode.specs.Decode.{refusal, noRefusal, decodeOf}
+use Rattle.bytecode.specs.Decode.{refusal, decodeOf}
 use Rattle.bytecode.specs.declared.answers.Refusal.{Refusal}
 use Rattle.bytecode.specs.declared.answers.Decoded.{Decoded}
 use Rattle.bytecode.specs.declared.answers.Decoded.the-variants.{Token as Accepted, Refused}
@@ -17,7 +17,6 @@ use Rattle.bytecode.specs.declared.record.Token.{Token}
 use Rattle.bytecode.proofs.DecodeLaws.{was-refused}
 use Rattle.registers.specs.Counts.{countOf}
 use Rattle.paths.specs.Paths.{TokenFault, PathToken}
-use Rattle.paths.specs.Faults.{Answer, refused}
 use Rattle.paths.specs.Tokens.{pathTokenOf}
 use Rattle.paths.specs.Check.{checkFrom}
 use Rattle.verifier.specs.Rules.{opcodeTooNew, opcodeNotForStage, destinationWrong}

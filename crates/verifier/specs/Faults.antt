@@ -1,7 +1,6 @@
 -- The first fault of a token in the form that the code keeps: a refusal, with number 0 where there is none.
 use Prim.Native.Nat.{ℕ}
 use mathlib.Core.Bool.{Bool, true, false, not, cond}
-use mathlib.Core.List.{List, [], _∷_}
 use mathlib.Core.Option.{Option, none, some}
 use lib.Dec.{eqb, ltb}
 use Rattle.bytecode.specs.Decode.{refusal, noRefusal}
@@ -10,7 +9,7 @@ use Rattle.bytecode.specs.declared.record.Token.{Token}
 use Rattle.paths.specs.Paths.{TokenFault}
 use Rattle.verifier.specs.Rules.{opcodeTooNew, opcodeNotForStage, selectorsDiffer, matrixSwizzled}
 use Rattle.verifier.specs.Profile.{countIn}
-use Rattle.verifier.specs.Order.{rule, firstFault, recordRules}
+use Rattle.verifier.specs.Order.{firstFault, recordRules}
 use Rattle.verifier.specs.declared.profile.Profile.{Profile}
 
 abbrev pub numberOf : Option TokenFault → ℕ

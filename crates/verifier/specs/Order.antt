@@ -1,7 +1,7 @@
 -- Document 01, "Check order": 1 to 8 as numbered, token and part 0. Then tokens in turn; each by 9 to 15 as numbered, then source 1 by 16 to
 -- 18, then source 2 by 16 to 18, or 19 for a sampler, then 20, 21. 22 comes last.
 use Prim.Native.Nat.{ℕ, zero, suc, _+_, _*_}
-use mathlib.Core.Bool.{Bool, true, false, not, cond}
+use mathlib.Core.Bool.{Bool, not, cond}
 use mathlib.Core.List.{List, [], _∷_, _++_}
 use mathlib.Core.Option.{Option, none, some}
 use lib.Dec.{eqb}
@@ -9,11 +9,10 @@ use lib.ListN.{take, drop}
 use Rattle.bytecode.specs.Opcodes.{shapeOf}
 use Rattle.bytecode.specs.Fields.{fieldsOf}
 use Rattle.bytecode.specs.Records.{tokenOf}
-use Rattle.bytecode.specs.Decode.{refusal, unusedPart, undefinedPart}
+use Rattle.bytecode.specs.Decode.{unusedPart, undefinedPart}
 use Rattle.bytecode.specs.declared.record.Operand.{Operand}
 use Rattle.bytecode.specs.declared.record.Operand.the-variants.{Unused as NoOperand, Direct, Indexed, Sampler as Sampled}
 use Rattle.bytecode.specs.declared.record.Token.{Token}
-use Rattle.bytecode.specs.declared.answers.Refusal.{Refusal}
 use Rattle.registers.specs.Counts.{countOf}
 use Rattle.paths.specs.Paths.{TokenFault, PathToken}
 use Rattle.paths.specs.Reads.{rowCount2}

@@ -1,8 +1,8 @@
 -- Document 01, "Numbers of the faults": a rule for each of faults 1 to 19. Faults 20, 21 and 22 are those of branches and paths, and stand
 -- in the crate paths (Nesting, Unwritten, Faults).
 use Prim.Native.Nat.{ℕ, _+_, _-_, _/_, _%_}
-use mathlib.Core.Bool.{Bool, true, false, not, _&&_, _||_}
-use mathlib.Core.List.{List, [], _∷_}
+use mathlib.Core.Bool.{Bool, false, not, _&&_, _||_}
+use mathlib.Core.List.{List}
 use lib.Dec.{eqb, ltb, leb}
 use lib.ListN.{length, getD}
 use Rattle.bytecode.specs.Layout.{wordAt}

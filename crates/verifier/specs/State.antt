@@ -1,8 +1,7 @@
 -- The state that the code keeps, and what a token makes of it. Nobody has to believe these: what the check answers is stated over rules and
 -- paths (Exact).
 use Prim.Native.Nat.{ℕ, _+_, _-_, _%_}
-use mathlib.Core.Bool.{Bool, true, false, not, cond, _||_, _&&_}
-use mathlib.Core.List.{List, [], _∷_}
+use mathlib.Core.Bool.{Bool, true, false, cond, _||_}
 use lib.Dec.{eqb, ltb, leb}
 use lib.ListN.{getD, set, replicate}
 use Rattle.paths.specs.Written.{joinOf, markOf}

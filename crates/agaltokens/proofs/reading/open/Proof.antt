@@ -1,7 +1,7 @@
 -- `open` meets its contract: a walk of its MIR, by hand. `reader::open` is called on the slice, and of what it returns the answer alone is handed back.
 -- All that the proof knows of `reader::open` is that it meets its contract. An answer is plain data: what it owns is only facts, which are made again.
 -- Assumes nothing.
-use mathlib.Core.Path.{_≡_, refl, ap}
+use mathlib.Core.Path.{refl, ap}
 use Prim.Native.Nat.{ℕ}
 use mathlib.Core.List.{List, [], _∷_}
 use lib.ListN.{length}
@@ -39,8 +39,7 @@ use denote.Triple.Table.{entered, cited}
 use denote.Triple.Walked.{says, Stays, stay-none-slice, walkOf, goes-none-slice, Walks, ends-at, walked, walk-meets}
 use denote.Exit.{yes}
 use denote.Triple.Clauses.{ensured, lasts}
-use Rattle.reader.specs.Reading.{openingOf, Opens}
-use Rattle.reader.specs.declared.answers.Opening.{Opening}
+use Rattle.reader.specs.Reading.{Opens}
 use Rattle.reader.specs.declared.answers.Opened.{Opened}
 use Rattle.reader.proofs.answers.Opened as R
 use Rattle.reader.proofs.answers.Opened.Laws as R′

@@ -1,6 +1,6 @@
 -- `run` meets its contract.
 -- Assumes nothing.
-use Prim.Native.Nat.{_≤_, _-_}
+use Prim.Native.Nat.{_-_}
 use lib.ListN.{length}
 use borrow.Author.Needs.{needs}
 use Rattle.bench_checks.proofs.cases.run.Statement.{statement}

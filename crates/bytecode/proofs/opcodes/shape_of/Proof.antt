@@ -1,6 +1,5 @@
 -- `shape_of` meets its contract.
 -- Assumes nothing.
-use mathlib.Core.Path.{_∙_}
 use Rattle.bytecode.proofs.ShapeSets.{sets-are, past-sets}
 use borrow.Author.Needs.{needs}
 use Rattle.bytecode.proofs.opcodes.shape_of.Statement.{statement}

@@ -1,8 +1,6 @@
 -- `unsigned_byte` meets its contract: antt computes it at each of the 256 signed bytes.
 -- Assumes nothing.
-use Prim.Native.Nat.{ℕ, _<_}
-use mathlib.Core.Bool.{Bool}
-use lib.Dec.{T, eqb, ltb, ltb→lt, eqb→eq, lit<}
+use lib.Dec.{eqb, ltb, ltb→lt, eqb→eq, lit<}
 use lib.IntN.{ℤ, pos, _+ℤ_, natAbs}
 use lib.Signed.{mag, nonNeg, remZ, quotZ}
 use mir.Syntax.{w8, w16}

@@ -1,6 +1,6 @@
 -- `check` meets its contract.
 -- Assumes nothing.
-use mathlib.Core.Path.{_≡_, _∙_, sym, ap}
+use mathlib.Core.Path.{_∙_, sym, ap}
 use borrow.Author.Needs.{needs}
 use denote.Ref.{now}
 use Rattle.verifier.specs.declared.answers.Checked.the-variants.{Refused}

@@ -1,6 +1,6 @@
 -- `step` meets its contract.
 -- Assumes nothing.
-use mathlib.Core.Path.{_∙_, ap, sym}
+use mathlib.Core.Path.{_∙_, ap}
 use denote.Ref.{now}
 use Rattle.bytecode.proofs.DecodeLaws.{refused-by, accepted-by}
 use Rattle.verifier.specs.Faults.{undecodedFault}
