@@ -73,6 +73,14 @@ module _ (s : List ℕ) where
         let z : decodeFault s ≡ noRefusal = sym (ap (λ k. k .fault) e ∙ fault-is) ∙ ap (λ k. k .fault) k ∙ f in
         record { answer = ap (λ k. Accepted (tokenOf (k .shape) (k .fields))) k ∙ sym (rw z); numbers = sym z }
 
+  pub wrong-length : (length s ≡ 24 → ⊥) → Decodes s (Refused (refusal 24 0 0))
+  unfolding examinedOf
+  wrong-length n = refused-by notExamined (sym (rw (ne-eqb _ _ n))) (λ e. omega (arith, e))
+
+  pub with-fault : length s ≡ 24 → (tokenFault (shapeOf (fieldsOf s .opcode)) (fieldsOf s) .number ≡ 0 → ⊥) → Decodes s (Refused (tokenFault (shapeOf (fieldsOf s .opcode)) (fieldsOf s)))
+  unfolding examinedOf
+  with-fault h n = refused-by (examinedFields (fieldsOf s)) (sym (rw (eq-eqb _ _ h))) n
+
   pub no-faults : length s ≡ 24 → tokenFault (shapeOf (fieldsOf s .opcode)) (fieldsOf s) .number ≡ 0 → Decodes s (Accepted (tokenOf (shapeOf (fieldsOf s .opcode)) (fieldsOf s)))
   unfolding examinedOf
   no-faults h e = accepted-by (examinedFields (fieldsOf s)) (sym (rw (eq-eqb _ _ h))) e
@@ -148,6 +156,14 @@ module _ (s : Shape) (f : Fields) where
       go true false true x l d a b k = absurd (false≢true k)
       go true true x y l d a b k = absurd (false≢true k)
       go false x y z l d a b k = absurd (false≢true k)
+
+  pub is-clean : Clean s f → isClean s f ≡ true
+  unfolding isClean
+  is-clean c = rw (c .listed, c .destination, c .source1, c .source2)
+
+  -- what is not clean has a fault
+  pub not-clean : isClean s f ≡ false → tokenFault s f .number ≡ 0 → ⊥
+  not-clean e n = false≢true (sym e ∙ is-clean (clean (no-fault s f n)))
 
 -- an accepted answer has no fault
 pub accepted : (s : List ℕ) (t : Token) → decodeOf s ≡ Accepted t

@@ -17,14 +17,15 @@ use crate::unpack;
 pub fn decode(bytes: &[u8]) -> Decoded
     ensures { λ r. ⌜ Decodes (now (bytes .entry)) r ⌝ }
 {
-    let found = examine(bytes);
-    let fault = found.fault;
-    if fault.number != 0 {
-        return Decoded::Refused(fault);
+    if bytes.len() != 24 {
+        return Decoded::Refused(refused(24, 0));
     }
-    let shape = found.shape;
-    let f = found.fields;
-    Decoded::Token(token_of(shape, f))
+    let f = fields::read_fields(bytes);
+    let shape = opcodes::shape_of(f.opcode);
+    if is_clean(shape, f) {
+        return Decoded::Token(token_of(shape, f));
+    }
+    Decoded::Refused(fault_of(shape, f))
 }
 
 // What decode sees before it makes a record: the fields of a token, what its opcode holds, and the first fault, with number 0 where there
@@ -37,7 +38,15 @@ pub fn examine(bytes: &[u8]) -> Examined
     }
     let fields = fields::read_fields(bytes);
     let shape = opcodes::shape_of(fields.opcode);
-    let fault = fault_of(shape, fields);
+    if is_clean(shape, fields) {
+        return examined(refused(0, 0), shape, fields);
+    }
+    examined(fault_of(shape, fields), shape, fields)
+}
+
+fn examined(fault: Refusal, shape: Shape, fields: Fields) -> Examined
+    ensures { λ r. ⌜ r ≡ record { fault = fault; shape = shape; fields = fields } ⌝ }
+{
     Examined {
         fault,
         shape,
@@ -86,9 +95,6 @@ fn token_of(shape: Shape, f: Fields) -> Token
 fn fault_of(shape: Shape, f: Fields) -> Refusal
     ensures { λ r. ⌜ r ≡ tokenFault shape f ⌝ }
 {
-    if is_clean(shape, f) {
-        return refused(0, 0);
-    }
     if !shape.listed {
         return refused(9, 0);
     }
@@ -103,7 +109,7 @@ fn fault_of(shape: Shape, f: Fields) -> Refusal
     refused(0, 0)
 }
 
-// Whether the opcode is listed and no field has a stray bit. Most tokens are clean, so it is tested first.
+// Whether the opcode is listed and no field has a stray bit. Most tokens are clean, so it is tested before a fault is looked for.
 fn is_clean(shape: Shape, f: Fields) -> bool
     ensures { λ r. ⌜ r ≡ isClean shape f ⌝ }
 {
