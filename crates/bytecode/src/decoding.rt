@@ -33,7 +33,8 @@ pub fn decode(bytes: &[u8]) -> Decoded
 pub fn examine(bytes: &[u8]) -> Examined
     ensures { λ r. ⌜ r ≡ examinedOf (now (bytes .entry)) ⌝ }
 {
-    if bytes.len() != 24 {
+    let length = bytes.len();
+    if length != 24 {
         return too_short_or_long();
     }
     let fields = fields::read_fields(bytes);
