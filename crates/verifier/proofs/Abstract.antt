@@ -96,10 +96,7 @@ flow-is o =
 
 -- ---- the innermost branch
 
--- a slot is a place of the array; that of d + 1 open branches is the d-th
-pub slot-in : (d : ℕ) → slotOf d < 16
-slot-in d = omega arith
-
+-- the slot of d + 1 open branches is the d-th place of the array
 pub slot-of : (d : ℕ) → d < 16 → slotOf (suc d) ≡ d
 slot-of d h = omega arith
 
