@@ -9,6 +9,8 @@ use native.Mathlib.Omega.{arith}
 use lib.Bits.{bitOr}
 use lib.Dec.{eqb}
 use borrow.Author.Tests.{eqb-true}
+use Rattle.laws.specs.Tests.{every}
+use Rattle.laws.proofs.Every.{below}
 use Rattle.bytecode.specs.Opcodes.{isIn, kil, tex}
 use Rattle.bytecode.specs.declared.record.Operand.{Operand}
 use Rattle.bytecode.specs.declared.record.Operand.the-variants.{Unused as NoOperand, Direct, Indexed, Sampler as Sampled}
@@ -22,7 +24,7 @@ use Rattle.paths.specs.Access.{accessThrough, swizzleOf, access1Of, acce
 use Rattle.paths.specs.Written.{componentSet, lacksOf}
 use Rattle.paths.specs.declared.access.Access.{Access}
 use Rattle.paths.specs.declared.written.Written.{Written}
-use Rattle.paths.proofs.Bits.{eqb-iff, bit-or, bit-shifted}
+use Rattle.paths.proofs.Bits.{same, same→eq, bit-or}
 use Rattle.paths.proofs.Numbers.{temporaries-other-rows}
 
 -- ---- the components that a swizzle names
@@ -36,8 +38,15 @@ in-keep c f true i is = refl
 in-keep c f false i is = refl
 
 -- one selector
+abbrev chooses : ℕ → ℕ → ℕ → Bool
+chooses b k c = same (bitOf (b * 2 ^ k) c) (eqb b 1 && eqb c k)
+
 chosen-bit : (b k c : ℕ) → b < 2 → k < 4 → c < 4 → bitOf (b * 2 ^ k) c ≡ (eqb b 1 && eqb c k)
-chosen-bit b k c hb hk hc = bit-shifted b k c hb (omega arith) (omega arith) ∙ ap (λ t. eqb b 1 && t) (eqb-iff k c c k sym sym)
+chosen-bit b k c hb hk hc =
+    same→eq _ _
+    (below (chooses b k) 4
+    (below (λ k. every (chooses b k) 4) 4
+    (below (λ b. every (λ k. every (chooses b k) 4) 4) 2 tt b hb) k hk) c hc)
 
 grouped : (p q r t : Bool) → ((p || q) || (r || t)) ≡ (p || (q || (r || (t || false))))
 grouped true q r t = refl

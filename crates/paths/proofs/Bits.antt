@@ -1,19 +1,15 @@
--- Bits of numbers: of two numbers joined, of a bit that is shifted, and runs of bits that are all set.
+-- Bits of numbers: of two numbers joined, the lowest four of a number, and four that are shifted to a register's place.
 -- Assumes nothing.
-use Prim.Native.Nat.{ℕ, zero, suc, _+_, _-_, _*_, _/_, _%_, _^_, _<_}
-use mathlib.Core.Bool.{Bool, true, false, _&&_, _||_}
-use mathlib.Core.Path.{_≡_, refl}
-use native.Mathlib.Nat.{mod-one}
-use native.Mathlib.Numerals.{add-one}
+use Prim.Native.Nat.{ℕ, zero, suc, _*_, _/_, _%_, _^_, _<_}
+use mathlib.Core.Bool.{Bool, true, false, not, _&&_, _||_, and-true}
+use mathlib.Core.Path.{_≡_, refl, sym, ap, _∙_}
 use native.Mathlib.Omega.{arith}
-use lib.Bits.{bitAnd, bitOr, and-shr, or-shr, and-mod, or-mod}
+use lib.Bits.{bitAnd, bitOr, and-shr, or-shr, and-mod, or-mod, and-mask, and-le-l}
 use lib.Dec.{T, eqb}
-use lib.Pow.{mod-pow-add, ones-split, shr-shr}
 use borrow.Author.Tests.{eqb-true, eqb-false, eq-eqb, ne-eqb}
 use Rattle.laws.specs.Tests.{every}
-use Rattle.laws.proofs.Every.{below}
+use Rattle.laws.proofs.Every.{below, is-true}
 use Rattle.paths.specs.Reads.{bitOf}
-use Rattle.paths.specs.Written.{allSet}
 
 -- two tests agree
 abbrev pub same : Bool → Bool → Bool
@@ -59,32 +55,51 @@ pub bit-or : (a b k : ℕ) → bitOf (bitOr a b) k ≡ (bitOf a k || bitOf b k)
 bit-or a b k =
     rw (or-shr a b k, or-mod (a / 2 ^ k) (b / 2 ^ k) 1) (or-one (a / 2 ^ k % 2) (b / 2 ^ k % 2) (omega arith) (omega arith))
 
--- ---- a bit that is shifted
+-- ---- four bits
 
-abbrev shifts : ℕ → ℕ → ℕ → Bool
-shifts b r k = same (bitOf (b * 2 ^ r) k) (eqb b 1 && eqb r k)
+-- the lowest four bits of a number
+pub bit-low : (m c : ℕ) → c < 4 → bitOf (m % 16) c ≡ bitOf m c
+bit-low m c h = rw (← and-mask m 4, bit-and m 15 c, is-true (bitOf 15 c) (below (bitOf 15) 4 tt c h)) (and-true (bitOf m c))
 
-pub bit-shifted : (b r k : ℕ) → b < 2 → r < 32 → k < 32 → bitOf (b * 2 ^ r) k ≡ (eqb b 1 && eqb r k)
-bit-shifted b r k hb hr hk =
+low-and : (m h : ℕ) → bitAnd (m % 16) h ≡ bitAnd (m % 16) (h % 16)
+low-and m h =
+    let e : m % 16 % 16 ≡ m % 16 = omega arith in
+    let f : bitAnd (m % 16) h % 16 ≡ bitAnd (m % 16) h = omega (arith, and-le-l (m % 16) h) in
+    sym f ∙ and-mod (m % 16) h 4 ∙ ap (λ a. bitAnd a (h % 16)) e
+
+-- some of the lowest four bits of a are not in b
+abbrev pub misses : ℕ → ℕ → Bool
+misses a b =
+    (bitOf a 0 && not (bitOf b 0)) || ((bitOf a 1 && not (bitOf b 1)) || ((bitOf a 2 && not (bitOf b 2)) || ((bitOf a 3 && not (bitOf b 3)) || false)))
+
+misses-four : (a b : ℕ) → a < 16 → b < 16 → misses a b ≡ not (eqb (bitAnd a b) a)
+misses-four a b ha hb =
     same→eq _ _
-    (below (shifts b r) 32
-    (below (λ r. every (shifts b r) 32) 32
-    (below (λ b. every (λ r. every (shifts b r) 32) 32) 2 tt b hb) r hr) k hk)
+    (below (λ b. same (misses a b) (not (eqb (bitAnd a b) a))) 16
+    (below (λ a. every (λ b. same (misses a b) (not (eqb (bitAnd a b) a))) 16) 16 tt a ha) b hb)
 
--- ---- runs of bits
+pub misses-is : (m h : ℕ) → misses m h ≡ not (eqb (bitAnd (m % 16) h) (m % 16))
+misses-is m h =
+    rw (
+      ← bit-low m 0 (omega arith),
+      ← bit-low m 1 (omega arith),
+      ← bit-low m 2 (omega arith),
+      ← bit-low m 3 (omega arith),
+      ← bit-low h 0 (omega arith),
+      ← bit-low h 1 (omega arith),
+      ← bit-low h 2 (omega arith),
+      ← bit-low h 3 (omega arith),
+      low-and m h,
+    )
+    (misses-four (m % 16) (h % 16) (omega arith) (omega arith))
 
--- the lowest bit apart from the others
-low-bit : (a b k : ℕ) → b < 2 → eqb (a * 2 + b) (k * 2 + 1) ≡ (eqb b 1 && eqb a k)
-low-bit a zero k h = ne-eqb (a * 2 + 0) (k * 2 + 1) (λ e. omega arith)
-low-bit a (suc zero) k h = eqb-iff (a * 2 + 1) (k * 2 + 1) a k (λ e. omega arith) (λ e. omega arith)
-low-bit a (suc (suc b)) k h = absurd (omega arith)
+-- four bits at the place of one of 16 registers
+abbrev placed : ℕ → ℕ → ℕ → Bool
+placed m r k = same (bitOf (m * 2 ^ (r * 4)) k) (eqb r (k / 4) && bitOf m (k % 4))
 
-pub all-set-none : (g r : ℕ) → allSet g r 0 ≡ true
-unfolding allSet
-all-set-none g r = rw (mod-one (g / 2 ^ r))
-
-pub all-set-more : (g r n : ℕ) → allSet g r (suc n) ≡ (bitOf g r && allSet g (suc r) n)
-unfolding allSet
-all-set-more g r n =
-    rw (← add-one n, ← add-one r, mod-pow-add (g / 2 ^ r) n 1, shr-shr g r 1, ones-split n 1)
-    (low-bit (g / 2 ^ (r + 1) % 2 ^ n) (g / 2 ^ r % 2) (2 ^ n - 1) (omega arith))
+pub bit-placed : (m r k : ℕ) → m < 16 → r < 16 → k < 64 → bitOf (m * 2 ^ (r * 4)) k ≡ (eqb r (k / 4) && bitOf m (k % 4))
+bit-placed m r k hm hr hk =
+    same→eq _ _
+    (below (placed m r) 64
+    (below (λ r. every (placed m r) 64) 16
+    (below (λ m. every (λ r. every (placed m r) 64) 16) 16 tt m hm) r hr) k hk)

@@ -1,16 +1,17 @@
 -- Components as numbers, register * 4 + component: lists of them, and what a set has or lacks of such a list.
 -- Assumes nothing.
-use Prim.Native.Nat.{ℕ, zero, suc, _+_, _*_, _/_, _%_, _<_, _≤_}
+use Prim.Native.Nat.{ℕ, zero, suc, _+_, _*_, _/_, _%_, _^_, _<_}
 use mathlib.Core.Bool.{Bool, true, false, not, _&&_, _||_, or-assoc}
 use mathlib.Core.List.{List, [], _∷_, _++_, map}
 use mathlib.Core.Path.{_≡_, refl, sym, ap, _∙_}
 use native.Mathlib.Omega.{arith}
 use lib.Dec.{eqb}
-use borrow.Author.Tests.{eqb-true, eqb-false, ne-eqb, lt-ltb, le-ltb}
+use lib.Pow.{shr-shr}
+use borrow.Author.Tests.{eqb-true, eqb-false, ne-eqb}
 use Rattle.paths.specs.Unwritten.{ComponentSet, has}
 use Rattle.paths.specs.Check.{lacks}
 use Rattle.paths.specs.Reads.{Component, bitOf, keep, componentsOf, rowsOf, temporaries}
-use Rattle.paths.specs.Written.{registersOf, componentSet}
+use Rattle.paths.specs.Written.{halfOf, componentSet}
 use Rattle.paths.specs.declared.written.Written.{Written}
 use Rattle.paths.proofs.Bits.{eqb-iff}
 
@@ -70,11 +71,9 @@ number-eqb n r c h = go (eqb r (n / 4)) refl
     go true e = let q = eqb-true r (n / 4) e in eqb-iff (r * 4 + c) n c (n % 4) (λ z. omega arith) (λ z. omega arith)
     go false e = ne-eqb (r * 4 + c) n (λ z. eqb-false r (n / 4) e (omega arith))
 
-pub in-set : (s : Written) (r c : ℕ) → r < 32 → c < 4 → componentSet s (r * 4 + c) ≡ bitOf (registersOf s c) r
-in-set s r c hr hc =
+-- a register's components, from the lowest bit of its place on
+pub in-set : (s : Written) (r c : ℕ) → c < 4 → componentSet s (r * 4 + c) ≡ bitOf (halfOf s r / 2 ^ (r % 16 * 4)) c
+in-set s r c h =
     let e : (r * 4 + c) / 4 ≡ r = omega arith in
-    let m : (r * 4 + c) % 4 ≡ c = omega arith in
-    rw (e, m, lt-ltb r 32 hr)
-
-pub not-in-set : (s : Written) (r c : ℕ) → 32 ≤ r → componentSet s (r * 4 + c) ≡ false
-not-in-set s r c h = rw (le-ltb ((r * 4 + c) / 4) 32 (omega arith))
+    let m : (r * 4 + c) % 64 ≡ r % 16 * 4 + c = omega arith in
+    rw (e, m, shr-shr (halfOf s r) (r % 16 * 4) c)

@@ -1,44 +1,37 @@
 -- The written sets as sets of components: join keeps what both have, and mark adds what a register's mask names.
 -- Assumes nothing.
 use Prim.Native.Nat.{ℕ, zero, suc, _*_, _/_, _%_, _^_, _<_}
-use mathlib.Core.Bool.{Bool, true, false, cond, _&&_, _||_, and-true, and-false, and-comm, or-false}
+use mathlib.Core.Bool.{Bool, true, false, cond, _&&_, _||_, and-true, and-false, or-false}
 use mathlib.Core.Path.{_≡_, refl, sym, ap, _∙_}
 use native.Mathlib.Decide.{decLt}
-use native.Mathlib.Nat.{div-one}
 use native.Mathlib.Omega.{arith}
 use lib.Bits.{bitAnd}
 use lib.Dec.{eqb, ltb}
+use lib.Pow.{field}
 use borrow.Author.Tests.{lt-ltb, le-ltb, eqb-true, ne-eqb}
 use Rattle.bytecode.specs.declared.record.Destination.the-variants.{Masked}
 use Rattle.bytecode.specs.declared.record.MaskedRegister.{MaskedRegister}
 use Rattle.paths.specs.Unwritten.{has, adds}
 use Rattle.paths.specs.Reads.{bitOf, maskComponents, componentsOf, writesInto, temporaries}
-use Rattle.paths.specs.Written.{registersOf, componentSet, joinOf, marked, markOf}
+use Rattle.paths.specs.Written.{halfOf, componentSet, joinOf, marked, markOf}
 use Rattle.paths.specs.declared.written.Written.{Written}
-use Rattle.paths.proofs.Bits.{bit-and, bit-or, bit-shifted}
+use Rattle.paths.proofs.Bits.{eqb-iff, bit-and, bit-or, bit-low, bit-placed}
 use Rattle.paths.proofs.Numbers.{numbers, temporaries-numbers, temporaries-other, has-keep, number-eqb}
 
 -- ---- join
 
-registers-join : (a b : Written) (c : ℕ) → registersOf (joinOf a b) c ≡ bitAnd (registersOf a c) (registersOf b c)
-registers-join a b c = go (eqb c 0) (eqb c 1) (eqb c 2)
+halves-join : (a b : Written) (r : ℕ) → halfOf (joinOf a b) r ≡ bitAnd (halfOf a r) (halfOf b r)
+halves-join a b r = go (ltb r 16) (ltb r 32)
   where
-    go : (p q r : Bool)
-        → cond p (bitAnd (a .x) (b .x)) (cond q (bitAnd (a .y) (b .y)) (cond r (bitAnd (a .z) (b .z)) (bitAnd (a .w) (b .w))))
-        ≡ bitAnd (cond p (a .x) (cond q (a .y) (cond r (a .z) (a .w)))) (cond p (b .x) (cond q (b .y) (cond r (b .z) (b .w))))
-    go true q r = refl
-    go false true r = refl
-    go false false true = refl
-    go false false false = refl
-
-and-both : (t p q : Bool) → (t && (p && q)) ≡ ((t && p) && (t && q))
-and-both true p q = refl
-and-both false p q = refl
+    go : (p q : Bool)
+        → cond p (bitAnd (a .low) (b .low)) (cond q (bitAnd (a .high) (b .high)) 0)
+        ≡ bitAnd (cond p (a .low) (cond q (a .high) 0)) (cond p (b .low) (cond q (b .high) 0))
+    go true q = refl
+    go false true = refl
+    go false false = refl
 
 pub in-join : (a b : Written) (n : ℕ) → componentSet (joinOf a b) n ≡ (componentSet a n && componentSet b n)
-in-join a b n =
-    rw (registers-join a b (n % 4), bit-and (registersOf a (n % 4)) (registersOf b (n % 4)) (n / 4))
-    (and-both (ltb (n / 4) 32) (bitOf (registersOf a (n % 4)) (n / 4)) (bitOf (registersOf b (n % 4)) (n / 4)))
+in-join a b n = rw (halves-join a b (n / 4)) (bit-and (halfOf a (n / 4)) (halfOf b (n / 4)) (n % 64))
 
 -- ---- mark
 
@@ -67,27 +60,51 @@ has-mask r m n =
     )
     (the-bit (eqb r (n / 4)) (bitOf m) (n % 4) (omega arith))
 
-bit-marked : (g r b k : ℕ) → b < 2 → r < 32 → k < 32 → bitOf (marked g r b) k ≡ (bitOf g k || (eqb r k && eqb b 1))
-bit-marked g r b k hb hr hk =
-    bit-or g (b * 2 ^ r) k ∙ ap (λ t. bitOf g k || t) (bit-shifted b r k hb hr hk ∙ and-comm (eqb b 1) (eqb r k))
+bit-marked : (g r m k : ℕ) → k < 64 → bitOf (marked g r m) k ≡ (bitOf g k || (eqb (r % 16) (k / 4) && bitOf m (k % 4)))
+bit-marked g r m k h =
+    rw (
+      bit-or g (m % 16 * 2 ^ (r % 16 * 4)) k,
+      bit-placed (m % 16) (r % 16) k (omega arith) (omega arith) h,
+      bit-low m (k % 4) (omega arith),
+    )
 
-module _ (s : Written) (r m : ℕ) (h : r < 32) where
-  registers-mark : (j k : ℕ) → j < 4 → k < 32
-      → bitOf (registersOf (markOf s r m) j) k ≡ (bitOf (registersOf s j) k || (eqb r k && bitOf m j))
+module _ (s : Written) (r m : ℕ) (h : r < 32) (n : ℕ) where
+  -- the half that the register is in
+  same-half : (g : ℕ) → r / 16 ≡ n / 4 / 16 → bitOf (marked g r m) (n % 64) ≡ (bitOf g (n % 64) || (eqb r (n / 4) && bitOf m (n % 4)))
+  same-half g e =
+      let c : n % 64 % 4 ≡ n % 4 = omega arith in
+      let q : n % 64 / 4 ≡ n / 4 % 16 = field n 4 2 in
+      rw (bit-marked g r m (n % 64) (omega arith), c, q, eqb-iff (r % 16) (n / 4 % 16) r (n / 4) (λ z. omega arith) (λ z. omega arith))
+
+  -- and the other one
+  other-half : (g : ℕ) → (r ≡ n / 4 → ⊥) → bitOf g (n % 64) ≡ (bitOf g (n % 64) || (eqb r (n / 4) && bitOf m (n % 4)))
+  other-half g e = rw (ne-eqb r (n / 4) e) (sym (or-false (bitOf g (n % 64))))
+
+  halves-mark : bitOf (halfOf (markOf s r m) (n / 4)) (n % 64) ≡ (bitOf (halfOf s (n / 4)) (n % 64) || (eqb r (n / 4) && bitOf m (n % 4)))
   unfolding markOf
-  registers-mark zero k hj hk = rw (lt-ltb r 32 h, div-one m) (bit-marked (s .x) r (m % 2) k (omega arith) h hk)
-  registers-mark (suc zero) k hj hk = rw (lt-ltb r 32 h) (bit-marked (s .y) r (m / 2 % 2) k (omega arith) h hk)
-  registers-mark (suc (suc zero)) k hj hk = rw (lt-ltb r 32 h) (bit-marked (s .z) r (m / 4 % 2) k (omega arith) h hk)
-  registers-mark (suc (suc (suc zero))) k hj hk = rw (lt-ltb r 32 h) (bit-marked (s .w) r (m / 8 % 2) k (omega arith) h hk)
-  registers-mark (suc (suc (suc (suc j)))) k hj hk = absurd (omega arith)
+  halves-mark =
+      elim (decLt r 16) [
+        | yes l ↦
+            rw (lt-ltb r 16 l)
+            (elim (decLt (n / 4) 16) [
+              | yes k ↦ rw (lt-ltb (n / 4) 16 k) (same-half (s .low) (omega arith))
+              | no k ↦ rw (le-ltb (n / 4) 16 (omega (arith, k))) (other-half _ (λ e. omega (arith, k)))
+            ])
+        | no l ↦
+            rw (le-ltb r 16 (omega (arith, l)), lt-ltb r 32 h)
+            (elim (decLt (n / 4) 16) [
+              | yes k ↦ rw (lt-ltb (n / 4) 16 k) (other-half (s .low) (λ e. omega (arith, l)))
+              | no k ↦
+                  rw (le-ltb (n / 4) 16 (omega (arith, k)))
+                  (elim (decLt (n / 4) 32) [
+                    | yes j ↦ rw (lt-ltb (n / 4) 32 j) (same-half (s .high) (omega (arith, k, l)))
+                    | no j ↦ rw (le-ltb (n / 4) 32 (omega (arith, j))) (other-half 0 (λ e. omega (arith, j)))
+                  ])
+            ])
+      ]
 
-  pub in-mark : (n : ℕ) → componentSet (markOf s r m) n ≡ adds (componentSet s) (temporaries (componentsOf 2 r (maskComponents m))) n
-  in-mark n =
-      rw (temporaries-numbers r (maskComponents m), has-mask r m n)
-      (elim (decLt (n / 4) 32) [
-        | yes l ↦ rw (lt-ltb (n / 4) 32 l) (registers-mark (n % 4) (n / 4) (omega arith) l)
-        | no l ↦ rw (le-ltb (n / 4) 32 (omega (arith, l)), ne-eqb r (n / 4) (λ e. omega (arith, l)))
-      ])
+  pub in-mark : componentSet (markOf s r m) n ≡ adds (componentSet s) (temporaries (componentsOf 2 r (maskComponents m))) n
+  in-mark = rw (temporaries-numbers r (maskComponents m), has-mask r m n) halves-mark
 
 -- a token's write: a temporary's components are marked, and those of other registers are not kept
 pub in-written : (s : Written) (d : MaskedRegister) → (d .kind ≡ 2 → d .number < 32) → (n : ℕ)

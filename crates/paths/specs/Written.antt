@@ -1,7 +1,7 @@
--- Document 01, "Ways, reads and writes": the check's set of written components, a 32-bit number for each of x, y, z and w, with a bit for
--- each temporary register. No edition has more than 26.
-use Prim.Native.Nat.{ℕ, _-_, _*_, _/_, _%_, _^_}
-use mathlib.Core.Bool.{Bool, cond, _&&_}
+-- Document 01, "Ways, reads and writes": the check's set of written components, two 64-bit numbers with four bits for each temporary
+-- register, x the lowest: registers 0 to 15 in the low number, 16 to 31 in the high one. No edition has more than 26.
+use Prim.Native.Nat.{ℕ, _*_, _/_, _%_, _^_}
+use mathlib.Core.Bool.{Bool, cond, not}
 use lib.Bits.{bitAnd, bitOr}
 use lib.Dec.{ltb, eqb}
 use Rattle.paths.specs.Unwritten.{ComponentSet}
@@ -9,41 +9,32 @@ use Rattle.paths.specs.Check.{lacks}
 use Rattle.paths.specs.Reads.{bitOf, maskComponents, rowsOf, temporaries}
 use Rattle.paths.specs.declared.written.Written.{Written}
 
--- the registers whose component c is written
-abbrev pub registersOf : Written → ℕ → ℕ
-registersOf s c = cond (eqb c 0) (s .x) (cond (eqb c 1) (s .y) (cond (eqb c 2) (s .z) (s .w)))
+-- the number that a register's bits are in; a register above 31 has none
+abbrev pub halfOf : Written → ℕ → ℕ
+halfOf s register = cond (ltb register 16) (s .low) (cond (ltb register 32) (s .high) 0)
 
--- the components that the four numbers stand for, each as register * 4 + component; a register above 31 has none
+-- the components that the two numbers stand for, each as register * 4 + component
 abbrev pub componentSet : Written → ComponentSet
-componentSet s n = ltb (n / 4) 32 && bitOf (registersOf s (n % 4)) (n / 4)
+componentSet s n = bitOf (halfOf s (n / 4)) (n % 64)
 
 -- "joined at eif": what both sets have
 abbrev pub joinOf : Written → Written → Written
-joinOf a b = record { x = bitAnd (a .x) (b .x); y = bitAnd (a .y) (b .y); z = bitAnd (a .z) (b .z); w = bitAnd (a .w) (b .w) }
+joinOf a b = record { low = bitAnd (a .low) (b .low); high = bitAnd (a .high) (b .high) }
 
--- the registers with one more, where the bit is 1 and not 0
+-- the number that a register's bits are in, with those of a mask set
 abbrev pub marked : ℕ → ℕ → ℕ → ℕ
-marked registers register bit = bitOr registers (bit * 2 ^ register)
+marked half register mask = bitOr half (mask % 16 * 2 ^ (register % 16 * 4))
 
 -- "a token with a destination writes the components of its mask"; a register above 31 is not kept
 unfoldable pub markOf : Written → ℕ → ℕ → Written
 markOf s register mask =
-    cond (ltb register 32)
-    (record {
-      x = marked (s .x) register (mask % 2);
-      y = marked (s .y) register (mask / 2 % 2);
-      z = marked (s .z) register (mask / 4 % 2);
-      w = marked (s .w) register (mask / 8 % 2);
-    })
-    s
+    cond (ltb register 16) (record { low = marked (s .low) register mask; high = s .high })
+    (cond (ltb register 32) (record { low = s .low; high = marked (s .high) register mask })
+    s)
 
--- the registers that have what is asked of a component: those written where the bit is 1, and all where it is 0
-abbrev pub heldOf : ℕ → ℕ → ℕ
-heldOf registers bit = cond (eqb bit 0) 0xffffffff registers
-
--- some bits, from bit `first` on, are all set
-unfoldable pub allSet : ℕ → ℕ → ℕ → Bool
-allSet registers first count = eqb (registers / 2 ^ first % 2 ^ count) (2 ^ count - 1)
+-- the bits of a mask are not all set among a register's, as the code tests it
+abbrev pub lacksRow : Written → ℕ → ℕ → Bool
+lacksRow s register mask = not (eqb (bitAnd (mask % 16) (halfOf s register / 2 ^ (register % 16 * 4))) (mask % 16))
 
 -- some component is missing that is read of each of some rows, from a temporary register on
 unfoldable pub lacksOf : Written → ℕ → ℕ → ℕ → Bool

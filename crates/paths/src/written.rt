@@ -1,14 +1,11 @@
 // Sets of written components of temporary registers.
 ghost use mathlib.Core.Path.{_≡_};
-ghost use Prim.Native.Nat.{_+_, _<_, _≤_};
-ghost use Rattle.paths.specs.Written.{joinOf, marked, markOf, heldOf, allSet, lacksOf};
+ghost use Rattle.paths.specs.Written.{halfOf, joinOf, marked, markOf, lacksRow, lacksOf};
 
-// Which registers have each component written: bit r stands for register r.
+// Four bits for each register, its lowest for x: registers 0 to 15 in the low half, 16 to 31 in the high one.
 pub struct Written {
-    pub x: u32,
-    pub y: u32,
-    pub z: u32,
-    pub w: u32,
+    pub low: u64,
+    pub high: u64,
 }
 
 // What both sets have.
@@ -16,10 +13,8 @@ pub fn join(a: Written, b: Written) -> Written
     ensures { λ r. ⌜ r ≡ joinOf a b ⌝ }
 {
     Written {
-        x: a.x & b.x,
-        y: a.y & b.y,
-        z: a.z & b.z,
-        w: a.w & b.w,
+        low: a.low & b.low,
+        high: a.high & b.high,
     }
 }
 
@@ -28,60 +23,63 @@ pub fn mark(written: Written, register: u16, mask: u8) -> Written
     ensures { λ r. ⌜ r ≡ markOf written register mask ⌝ }
 {
     let register = register as u32;
-    if 32 <= register {
-        return written;
+    if register < 16 {
+        let low = with_mask(written.low, register, mask);
+        return Written {
+            low,
+            high: written.high,
+        };
     }
-    let x = with_register(written.x, register, mask % 2);
-    let y = with_register(written.y, register, mask / 2 % 2);
-    let z = with_register(written.z, register, mask / 4 % 2);
-    let w = with_register(written.w, register, mask / 8 % 2);
-    Written { x, y, z, w }
+    if register < 32 {
+        let high = with_mask(written.high, register, mask);
+        return Written {
+            low: written.low,
+            high,
+        };
+    }
+    written
 }
 
-// The registers with one added, where the bit is 1 and not 0.
-fn with_register(registers: u32, register: u32, bit: u8) -> u32
-    requires { ⌜ register < 32 ⌝ }
-    requires { ⌜ bit < 2 ⌝ }
-    ensures { λ r. ⌜ r ≡ marked registers register bit ⌝ }
+// The half that a register is in, with the components of a mask added to the register's.
+fn with_mask(half: u64, register: u32, mask: u8) -> u64
+    ensures { λ r. ⌜ r ≡ marked half register mask ⌝ }
 {
-    registers | ((bit as u32) << register)
+    half | (((mask % 16) as u64) << (register % 16 * 4))
 }
 
 // Whether one of `rows` registers, from `register` on, lacks one of the components.
 pub fn lacks(written: Written, register: u16, rows: u8, components: u8) -> bool
     ensures { λ r. ⌜ r ≡ lacksOf written register rows components ⌝ }
 {
-    let first = register as u32;
-    let count = rows as u32;
-    if count == 0 {
-        return false;
+    let mut row = register as u32;
+    let end = row + rows as u32;
+    while row < end {
+        if lacks_row(written, row, components) {
+            return true;
+        }
+        row += 1;
     }
-    if components % 16 == 0 {
-        return false;
-    }
-    if 32 < first + count {
-        return true;
-    }
-    let x = held(written.x, components % 2);
-    let y = held(written.y, components / 2 % 2);
-    let z = held(written.z, components / 4 % 2);
-    let w = held(written.w, components / 8 % 2);
-    !all_set((x & y) & (z & w), first, count)
+    false
 }
 
-// The registers that have what is asked of a component: those written where the bit is 1, and all where it is 0.
-fn held(registers: u32, bit: u8) -> u32
-    ensures { λ r. ⌜ r ≡ heldOf registers bit ⌝ }
+// Whether a register lacks one of the components.
+fn lacks_row(written: Written, register: u32, components: u8) -> bool
+    ensures { λ r. ⌜ r ≡ lacksRow written register components ⌝ }
 {
-    if bit == 0 { 0xFFFF_FFFF } else { registers }
+    let asked = (components % 16) as u64;
+    let there = half_of(written, register) >> (register % 16 * 4);
+    (asked & there) != asked
 }
 
-// Whether `count` bits from bit `first` on are all set.
-fn all_set(registers: u32, first: u32, count: u32) -> bool
-    requires { ⌜ first + count ≤ 32 ⌝ }
-    requires { ⌜ first < 32 ⌝ }
-    ensures { λ r. ⌜ r ≡ allSet registers first count ⌝ }
+// The half that a register is in; one above 31 has nothing written.
+fn half_of(written: Written, register: u32) -> u64
+    ensures { λ r. ⌜ r ≡ halfOf written register ⌝ }
 {
-    let end = 1u64 << count;
-    ((registers as u64) >> first) % end == end - 1
+    if register < 16 {
+        return written.low;
+    }
+    if register < 32 {
+        return written.high;
+    }
+    0
 }

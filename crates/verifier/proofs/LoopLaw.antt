@@ -1,18 +1,17 @@
 -- The loop of the check: where it starts, one turn of it, and where it ends.
 -- Assumes nothing.
 use Prim.Native.Nat.{ℕ, zero, suc, _+_, _-_, _*_, _/_, _%_, _^_, _≤_, _<_}
-use mathlib.Core.Bool.{Bool, true, false, cond, _&&_}
+use mathlib.Core.Bool.{Bool, true, false, cond}
 use mathlib.Core.List.{List, []}
 use mathlib.Core.Path.{_≡_, refl, _∙_, sym, ap, ap₂, subst, subst⁻¹, fun-ext}
 use native.Mathlib.Nat.{zero-div}
 use native.Mathlib.Numerals.{add-one}
 use native.Mathlib.Omega.{arith}
-use lib.Dec.{eqb, ltb}
+use lib.Dec.{ltb}
 use lib.ListN.{length, take, drop, length-take, length-drop}
 use borrow.Author.Tests.{eq-eqb, ne-eqb}
 use Rattle.paths.specs.Unwritten.{nothing}
-use Rattle.paths.specs.Reads.{bitOf}
-use Rattle.paths.specs.Written.{componentSet, registersOf}
+use Rattle.paths.specs.Written.{componentSet, halfOf}
 use Rattle.paths.specs.Faults as faults
 use Rattle.paths.specs.Check.{start, ending, checkFrom, verdictOf}
 use Rattle.verifier.specs.Rules.{stageOf, tokenCount}
@@ -33,21 +32,16 @@ use Rattle.verifier.proofs.TokenLaw.{steps}
 
 -- ---- before the first token
 
-none-set : (c : ℕ) → registersOf noneWritten c ≡ 0
-none-set c = go (eqb c 0) (eqb c 1) (eqb c 2) 0
+none-set : (r : ℕ) → halfOf noneWritten r ≡ 0
+none-set r = go (ltb r 16) (ltb r 32) 0
   where
-    go : (a b d : Bool) (z : ℕ) → cond a z (cond b z (cond d z z)) ≡ z
-    go true b d z = refl
-    go false true d z = refl
-    go false false true z = refl
-    go false false false z = refl
-
-and-false : (b : Bool) → (b && false) ≡ false
-and-false true = refl
-and-false false = refl
+    go : (a b : Bool) (z : ℕ) → cond a z (cond b z z) ≡ z
+    go true b z = refl
+    go false true z = refl
+    go false false z = refl
 
 none-written : componentSet noneWritten ≡ nothing
-none-written = fun-ext (λ n. ap (λ g. ltb (n / 4) 32 && bitOf g (n / 4)) (none-set (n % 4)) ∙ ap (λ z. ltb (n / 4) 32 && eqb (z % 2) 1) (zero-div (2 ^ (n / 4))) ∙ and-false (ltb (n / 4) 32))
+none-written = fun-ext (λ n. rw (none-set (n / 4), zero-div (2 ^ (n % 64))))
 
 start-is : abstractOf startState ≡ start
 start-is = ap (λ w. record { openBranches = []; current = w; kept = [] }) none-written

@@ -24,7 +24,7 @@ flowOfCode opcode =
     (cond (eqb opcode 0x21) Eif Plain)))
 
 abbrev pub noneWritten : Written
-noneWritten = record { x = 0; y = 0; z = 0; w = 0 }
+noneWritten = record { low = 0; high = 0 }
 
 abbrev pub blankBranch : Branch
 blankBranch = record { opener = 0; «els_met» = false; kept = noneWritten }

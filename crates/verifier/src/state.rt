@@ -60,12 +60,7 @@ impl State {
     pub(crate) fn start() -> State
         ensures { λ r. ⌜ r ≡ startState ⌝ }
     {
-        let none = Written {
-            x: 0,
-            y: 0,
-            z: 0,
-            w: 0,
-        };
+        let none = Written { low: 0, high: 0 };
         let blank = Branch {
             opener: 0,
             els_met: false,

@@ -1,63 +1,54 @@
 -- `lacks` meets its contract.
 -- Assumes nothing.
+use Prim.Native.Nat.{_+_, _-_, _≤_}
+use mathlib.Core.Path.{_≡_, sym, _∙_}
+use native.Mathlib.Omega.{arith}
 use borrow.Author.Needs.{needs}
-use mathlib.Core.Path.{sym}
 use Rattle.paths.specs.Written.{lacksOf}
-use Rattle.paths.proofs.Lacking.{lacks-none, lacks-above, lacks-below}
+use Rattle.paths.proofs.Lacking.{lacks-first, lacks-none}
 use Rattle.paths.proofs.written.lacks.Statement.{statement}
 use Rattle.paths.proofs.written.lacks.Tie as tie
 
-returns : tie.Need-returns
-unfolding lacksOf
-returns c = rw (c .if1 .taken)
+-- the rows so far lack nothing
+abbrev Inv-loop : tie.InvT-loop
+Inv-loop written register rows components row₀ end row =
+    (row ≤ end) × (lacksOf written row (end - row) components ≡ lacksOf written register rows components)
 
-returns-2 : tie.Need-returns-2
-returns-2 c = sym (lacks-none _ _ _ _ (c .if2 .taken))
+abbrev μ-loop : tie.MeasureT-loop
+μ-loop written register rows components row₀ end row = end - row
 
-add-if3 : tie.Need-add-if3
-add-if3 c = search needs
+add-end : tie.Need-add-end Inv-loop μ-loop
+add-end c = search needs
 
-returns-3 : tie.Need-returns-3
-returns-3 c = sym (lacks-above _ _ _ _ (c .before .if2 .left) (c .before .before .if1 .left) (c .if3 .taken))
+loop-holds : tie.Need-loop-holds Inv-loop μ-loop
+loop-holds c =
+    let rows : c .args .register + c .args .rows - c .args .register ≡ c .args .rows = omega arith in
+    (omega arith, rw rows)
 
-held-requires : tie.Need-held-requires
-held-requires c κs = search needs
+lacks-row-requires : tie.Need-lacks-row-requires Inv-loop μ-loop
+lacks-row-requires c κs = search needs
 
-held-requires-2 : tie.Need-held-requires-2
-held-requires-2 c κs = search needs
+returns : tie.Need-returns Inv-loop μ-loop
+returns c =
+    let turn = c .before .before .before in
+    rw (← turn .loop .inv .1, lacks-first _ _ _ _ (c .before .before .loop-test .taken), ← c .before .lacks-row .ensures, c .if1 .taken)
 
-held-requires-3 : tie.Need-held-requires-3
-held-requires-3 c κs = search needs
+add-row : tie.Need-add-row Inv-loop μ-loop
+add-row c = search needs
 
-held-requires-4 : tie.Need-held-requires-4
-held-requires-4 c κs = search needs
+loop-less : tie.Need-loop-less Inv-loop μ-loop
+loop-less c = search needs
 
-all-set-requires : tie.Need-all-set-requires
-all-set-requires c κs = search needs
-
-returns-4 : tie.Need-returns-4
-returns-4 c =
-    let first = c .before .before .before .before in
-    simp (
-      first .held .ensures,
-      c .before .before .before .held2 .ensures,
-      c .before .before .held3 .ensures,
-      c .before .held4 .ensures,
-      c .all-set .ensures,
+loop-again : tie.Need-loop-again Inv-loop μ-loop
+loop-again c =
+    let turn = c .before .before .before in (
+      omega arith,
+      rw (← turn .loop .inv .1, lacks-first _ _ _ _ (c .before .before .loop-test .taken), ← c .before .lacks-row .ensures, c .if1 .left),
     )
-    (sym (lacks-below _ _ _ _ (first .before .if3 .left)))
+
+returns-2 : tie.Need-returns-2 Inv-loop μ-loop
+returns-2 c = sym (lacks-none _ _ _ _ (c .loop-test .left)) ∙ c .before .loop .inv .1
 
 pub lacks-spec : {M : Type 1} → statement M
 lacks-spec =
-    tie.close
-    (tie.spec
-    returns
-    returns-2
-    add-if3
-    returns-3
-    held-requires
-    held-requires-2
-    held-requires-3
-    held-requires-4
-    all-set-requires
-    returns-4)
+    tie.close (tie.spec Inv-loop μ-loop add-end loop-holds lacks-row-requires returns add-row loop-less loop-again returns-2)

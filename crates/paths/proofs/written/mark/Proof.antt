@@ -6,41 +6,23 @@ use Rattle.paths.specs.Written.{markOf}
 use Rattle.paths.proofs.written.mark.Statement.{statement}
 use Rattle.paths.proofs.written.mark.Tie as tie
 
+with-mask-requires : tie.Need-with-mask-requires
+with-mask-requires c κs = search needs
+
 returns : tie.Need-returns
 unfolding markOf
-returns c = simp (le-ltb _ _ (c .if1 .taken))
+returns c = simp (lt-ltb _ _ (c .before .if1 .taken), c .with-mask .ensures)
 
-with-register-requires : tie.Need-with-register-requires
-with-register-requires c κs = search needs
-
-with-register-requires-2 : tie.Need-with-register-requires-2
-with-register-requires-2 c κs = search needs
-
-with-register-requires-3 : tie.Need-with-register-requires-3
-with-register-requires-3 c κs = search needs
-
-with-register-requires-4 : tie.Need-with-register-requires-4
-with-register-requires-4 c κs = search needs
+with-mask-requires-2 : tie.Need-with-mask-requires-2
+with-mask-requires-2 c κs = search needs
 
 returns-2 : tie.Need-returns-2
 unfolding markOf
-returns-2 c =
-    let first = c .before .before .before in
-    simp (
-      lt-ltb _ _ (first .before .if1 .left),
-      first .with-register .ensures,
-      c .before .before .with-register2 .ensures,
-      c .before .with-register3 .ensures,
-      c .with-register4 .ensures,
-    )
+returns-2 c = simp (le-ltb _ _ (c .before .before .if1 .left), lt-ltb _ _ (c .before .if2 .taken), c .with-mask2 .ensures)
+
+returns-3 : tie.Need-returns-3
+unfolding markOf
+returns-3 c = simp (le-ltb _ _ (c .before .if1 .left), le-ltb _ _ (c .if2 .left))
 
 pub mark-spec : {M : Type 1} → statement M
-mark-spec =
-    tie.close
-    (tie.spec
-    returns
-    with-register-requires
-    with-register-requires-2
-    with-register-requires-3
-    with-register-requires-4
-    returns-2)
+mark-spec = tie.close (tie.spec with-mask-requires returns with-mask-requires-2 returns-2 returns-3)
