@@ -43,10 +43,11 @@ fn check_tokens(edition: u32, bytes: &[u8]) -> Checked
         let current = state.current;
         let depth = state.depth;
         let innermost = state.branches[state::slot(depth)];
+        let branch = innermost.copied();
         let top = Top {
             current,
             depth,
-            branch: innermost,
+            branch,
         };
         let stepped = top.step(profile, token, &bytes[at..end]);
         let fault = stepped.fault;
@@ -54,8 +55,9 @@ fn check_tokens(edition: u32, bytes: &[u8]) -> Checked
             return Checked::Refused(fault);
         }
         let next = stepped.top;
-        let branch = next.branch;
+        let innermost = next.branch;
         let current = next.current;
+        let branch = innermost.copied();
         state.branches[state::slot_after(depth, next.depth)] = branch;
         state.current = current;
         state.depth = next.depth;

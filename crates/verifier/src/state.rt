@@ -23,6 +23,20 @@ pub struct Branch {
     pub kept: Written,
 }
 
+impl Branch {
+    // The same branch, field by field: a copy of the whole would move the bytes between its fields too.
+    pub(crate) fn copied(self) -> Branch
+        ensures { λ r. ⌜ r ≡ self ⌝ }
+    {
+        let kept = self.kept;
+        Branch {
+            opener: self.opener,
+            els_met: self.els_met,
+            kept,
+        }
+    }
+}
+
 // The open branches are the first `depth` of the array, the innermost last.
 pub struct State {
     pub current: Written,

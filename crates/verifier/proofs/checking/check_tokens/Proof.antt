@@ -1,7 +1,7 @@
 -- `check_tokens` meets its contract.
 -- Assumes nothing.
 use Prim.Native.Nat.{ℕ, _+_, _^_, _≤_, _<_}
-use mathlib.Core.Path.{_≡_, _∙_, sym, ap, subst⁻¹}
+use mathlib.Core.Path.{_≡_, _∙_, sym, ap, ap₂, subst⁻¹}
 use native.Mathlib.Omega.{arith}
 use borrow.Author.Needs.{needs}
 use lib.ListN.{getD, set}
@@ -11,6 +11,7 @@ use Rattle.verifier.specs.Rules.{tokenCount}
 use Rattle.verifier.specs.Order.{tokensOf}
 use Rattle.verifier.specs.State.{blankBranch}
 use Rattle.verifier.specs.Verdict.{answerOf}
+use Rattle.verifier.specs.declared.state.Branch.{Branch}
 use Rattle.verifier.specs.declared.state.State.{State}
 use Rattle.verifier.specs.declared.state.Top.{Top}
 use Rattle.verifier.proofs.Abstract.{Valid, valid-start}
@@ -66,6 +67,9 @@ mul-innermost c = search needs
 element-copy-out-innermost : tie.Need-element-copy-out-innermost Inv-loop μ-loop
 element-copy-out-innermost c = search needs
 
+copied-requires : tie.Need-copied-requires Inv-loop μ-loop
+copied-requires c κs = search needs
+
 sub-step : tie.Need-sub-step Inv-loop μ-loop
 sub-step c = search needs
 
@@ -79,17 +83,20 @@ step-requires : tie.Need-step-requires Inv-loop μ-loop
 step-requires c κs = search needs
 
 -- the top that the code takes
+abbrev topWith : State → Branch → Top
+topWith st branch = record { current = st .current; depth = st .depth; branch = branch }
+
 abbrev topAt : State → ℕ → Top
-topAt st slot = record { current = st .current; depth = st .depth; branch = getD (st .branches) slot blankBranch }
+topAt st slot = topWith st (getD (st .branches) slot blankBranch)
 
 -- the state that it goes on with
-abbrev stateAt : State → Top → ℕ → State
-stateAt st top slot = record { current = top .current; depth = top .depth; branches = set (st .branches) slot (top .branch) }
+abbrev stateAt : State → Top → ℕ → Branch → State
+stateAt st top slot branch = record { current = top .current; depth = top .depth; branches = set (st .branches) slot branch }
 
 returns : tie.Need-returns Inv-loop μ-loop
 returns c =
-    let at-start = c .before .before .before .before .before .before .before .before .before .before .before .before .before .before in
-    let entry = c .before .before .before .before .before .before .before .before .before .loop in
+    let at-start = c .before .before .before .before .before .before .before .before .before .before .before .before .before .before .before in
+    let entry = c .before .before .before .before .before .before .before .before .before .before .loop in
     sym
     (stops
     (at-start .args .edition)
@@ -98,15 +105,19 @@ returns c =
     (entry .state)
     (entry .inv .1)
     (entry .token)
-    (c .before .before .before .before .before .before .before .before .loop-test .taken)
+    (c .before .before .before .before .before .before .before .before .before .loop-test .taken)
     _
-    (c .before .before .before .before .before .before .before .before .before .before .before .profile-of .ensures)
+    (c .before .before .before .before .before .before .before .before .before .before .before .before .profile-of .ensures)
     _
-    (ap (topAt (entry .state)) (c .before .before .before .before .before .before .slot .ensures .0))
+    (ap (topWith (entry .state)) (c .before .before .before .before .before .copied .ensures)
+    ∙ ap (topAt (entry .state)) (c .before .before .before .before .before .before .before .slot .ensures .0))
     _
     (c .before .before .before .step .ensures)
     (c .if1 .taken))
     ∙ entry .inv .2
+
+copied-requires-2 : tie.Need-copied-requires-2 Inv-loop μ-loop
+copied-requires-2 c κs = search needs
 
 slot-after-requires : tie.Need-slot-after-requires Inv-loop μ-loop
 slot-after-requires c κs = search needs
@@ -119,8 +130,8 @@ element-set-from-branch c = search needs
 
 add-token : tie.Need-add-token Inv-loop μ-loop
 add-token c =
-    let entry = c .before .before .before .before .before .before .before .before .before .before .before .before .before .loop in
-    let h : entry .token + 1 < 2 ^ 64 = search (needs, c .before .before .before .before .before .before .before .before .before .before .before .before .loop-test .taken, c .before .before .before .before .before .before .before .before .before .before .before .before .before .before .before .before .before .before .good) in
+    let entry = c .before .before .before .before .before .before .before .before .before .before .before .before .before .before .before .loop in
+    let h : entry .token + 1 < 2 ^ 64 = search (needs, c .before .before .before .before .before .before .before .before .before .before .before .before .before .before .loop-test .taken, c .before .before .before .before .before .before .before .before .before .before .before .before .before .before .before .before .before .before .before .before .good) in
     record { fits = h }
 
 loop-less : tie.Need-loop-less Inv-loop μ-loop
@@ -128,22 +139,23 @@ loop-less c = search needs
 
 loop-again : tie.Need-loop-again Inv-loop μ-loop
 loop-again c =
-    let at-start = c .before .before .before .before .before .before .before .before .before .before .before .before .before .before .before .before .before .before in
+    let at-start = c .before .before .before .before .before .before .before .before .before .before .before .before .before .before .before .before .before .before .before .before in
     let edition = at-start .args .edition in
     let bytes = now (at-start .args .bytes) in
-    let entry = c .before .before .before .before .before .before .before .before .before .before .before .before .before .loop in
-    let inside = c .before .before .before .before .before .before .before .before .before .before .before .before .loop-test .taken in
-    let profile = c .before .before .before .before .before .before .before .before .before .before .before .before .before .before .before .profile-of in
-    let top = ap (topAt (entry .state)) (c .before .before .before .before .before .before .before .before .before .before .slot .ensures .0) in
-    let step = c .before .before .before .before .before .before .before .step in
-    let next : State = stateAt (entry .state) (step .result .top) (c .slot-after .result) in
-    let put = ap (stateAt (entry .state) (step .result .top)) (c .slot-after .ensures .0) in (
+    let entry = c .before .before .before .before .before .before .before .before .before .before .before .before .before .before .before .loop in
+    let inside = c .before .before .before .before .before .before .before .before .before .before .before .before .before .before .loop-test .taken in
+    let profile = c .before .before .before .before .before .before .before .before .before .before .before .before .before .before .before .before .before .profile-of in
+    let copied = c .before .before .before .before .before .before .before .before .before .before .copied in
+    let top = ap (topWith (entry .state)) (copied .ensures) ∙ ap (topAt (entry .state)) (c .before .before .before .before .before .before .before .before .before .before .before .before .slot .ensures .0) in
+    let step = c .before .before .before .before .before .before .before .before .step in
+    let next : State = stateAt (entry .state) (step .result .top) (c .slot-after .result) (c .before .copied2 .result) in
+    let put = ap₂ (stateAt (entry .state) (step .result .top)) (c .slot-after .ensures .0) (c .before .copied2 .ensures) in (
       omega arith,
       turn-valid edition bytes (at-start .pre) (entry .state) (entry .inv .1) (entry .token) inside _ (profile .ensures) _ top _ (step .ensures) next put,
       ap (answerOf bytes)
           (sym
           (goes-on edition bytes (at-start .pre) (entry .state) (entry .inv .1) (entry .token) inside _ (profile .ensures) _ top _ (step .ensures) next put
-          (c .before .before .before .before .if1 .left)))
+          (c .before .before .before .before .before .if1 .left)))
           ∙ entry .inv .2,
     )
 
@@ -179,11 +191,13 @@ check-tokens-spec =
     slot-requires
     mul-innermost
     element-copy-out-innermost
+    copied-requires
     sub-step
     part-step-start
     part-step-end
     step-requires
     returns
+    copied-requires-2
     slot-after-requires
     mul-branch
     element-set-from-branch
