@@ -22,11 +22,14 @@ const M33: u32 = 0x17;
 
 const M44: u32 = 0x18;
 
+const M34: u32 = 0x19;
+
 const KIL: u32 = 0x27;
 
 const TEX: u32 = 0x28;
 
-// Sets of opcodes, bit by bit: nrm crs dp3 m33; crs dp3; dp4 m34 m44 and the openers; dp4 and the openers; m34 m44; m33 m34.
+// Sets of opcodes, bit by bit: nrm crs dp3 m33; crs dp3; dp4 m34 m44 and the openers; dp4 and the openers; and all that are not by the
+// mask of source 1: the first, the third, kil and tex.
 const BY_THREE_OF_SOURCE1: u64 = 0x0086_4000;
 
 const BY_THREE_OF_SOURCE2: u64 = 0x0006_0000;
@@ -35,9 +38,7 @@ const BY_FOUR_OF_SOURCE1: u64 = 0xF308_0000;
 
 const BY_FOUR_OF_SOURCE2: u64 = 0xF008_0000;
 
-const FOUR_OF_EACH_ROW: u64 = 0x0300_0000;
-
-const THREE_ROWS: u64 = 0x0280_0000;
+const NOT_BY_MASK_OF_SOURCE1: u64 = 0x0180_F38E_4000;
 
 const FIRST: u8 = 1;
 
@@ -156,6 +157,9 @@ fn dimension_of(shape: OperandShape, field: u64) -> u8
 fn selectors1(opcode: u32, mask: u8, dimension: u8) -> u8
     ensures { λ r. ⌜ r ≡ selectorSet1 opcode mask dimension ⌝ }
 {
+    if !among(NOT_BY_MASK_OF_SOURCE1, opcode) {
+        return mask;
+    }
     if among(BY_THREE_OF_SOURCE1, opcode) {
         return FIRST_THREE;
     }
@@ -198,12 +202,21 @@ fn selectors2(opcode: u32, mask: u8) -> u8
 fn components2(opcode: u32, mask: u8, swizzle: u8) -> u8
     ensures { λ r. ⌜ r ≡ readSet2 opcode mask swizzle ⌝ }
 {
+    if opcode < M33 {
+        return selected2(opcode, mask, swizzle);
+    }
     if opcode == M33 {
         return FIRST_THREE;
     }
-    if among(FOUR_OF_EACH_ROW, opcode) {
+    if opcode <= M34 {
         return ALL_FOUR;
     }
+    selected2(opcode, mask, swizzle)
+}
+
+fn selected2(opcode: u32, mask: u8, swizzle: u8) -> u8
+    ensures { λ r. ⌜ r ≡ namedSet swizzle (selectorSet2 opcode mask) ⌝ }
+{
     named(swizzle, selectors2(opcode, mask))
 }
 
@@ -211,13 +224,16 @@ fn components2(opcode: u32, mask: u8, swizzle: u8) -> u8
 pub fn rows2(opcode: u32) -> u8
     ensures { λ r. ⌜ r ≡ rowCount2 opcode ⌝ }
 {
-    if among(THREE_ROWS, opcode) {
+    if opcode < M33 {
+        return 1;
+    }
+    if M34 < opcode {
+        return 1;
+    }
+    if opcode != M44 {
         return 3;
     }
-    if opcode == M44 {
-        return 4;
-    }
-    1
+    4
 }
 
 // Whether an opcode is in a set.

@@ -1,44 +1,34 @@
 -- `components2` meets its contract.
 -- Assumes nothing.
+use mathlib.Core.Path.{_∙_, sym}
+use native.Mathlib.Omega.{arith}
 use borrow.Author.Needs.{needs}
-use borrow.Author.Tests.{eq-eqb, ne-eqb}
+use borrow.Author.Tests.{eq-eqb}
 use Rattle.paths.specs.Access.{readSet2}
-use Rattle.paths.proofs.Among.{four-of-rows}
+use Rattle.paths.proofs.Among.{by-selectors, four-of-rows}
 use Rattle.paths.proofs.access.components2.Statement.{statement}
 use Rattle.paths.proofs.access.components2.Tie as tie
 
-returns : tie.Need-returns
-unfolding readSet2
-returns c = simp (eq-eqb _ _ (c .if1 .taken))
+selected2-requires : tie.Need-selected2-requires
+selected2-requires c κs = search needs
 
-among-requires : tie.Need-among-requires
-among-requires c κs = search needs
+returns : tie.Need-returns
+returns c = c .selected2 .ensures ∙ sym (by-selectors _ (λ low high. omega arith) _ _)
 
 returns-2 : tie.Need-returns-2
 unfolding readSet2
-returns-2 c =
-    let one = c .before .before in
-    simp (ne-eqb _ _ (one .if1 .left), four-of-rows (one .before .args .opcode) (c .before .among .ensures) (c .if2 .taken))
-
-selectors2-requires : tie.Need-selectors2-requires
-selectors2-requires c κs = search needs
-
-named-requires : tie.Need-named-requires
-named-requires c κs = search needs
+returns-2 c = simp (eq-eqb _ _ (c .if2 .taken))
 
 returns-3 : tie.Need-returns-3
-unfolding readSet2
-returns-3 c =
-    let two = c .before .before in
-    let one = two .before .before in
-    simp (
-      ne-eqb _ _ (one .if1 .left),
-      four-of-rows (one .before .args .opcode) (two .before .among .ensures) (two .if2 .left),
-      c .before .selectors2 .ensures,
-      c .named .ensures,
-    )
+returns-3 c = sym (four-of-rows _ _ _ (omega arith) (c .if3 .taken) (c .before .if2 .left))
+
+selected2-requires-2 : tie.Need-selected2-requires-2
+selected2-requires-2 c κs = search needs
+
+returns-4 : tie.Need-returns-4
+returns-4 c = c .selected22 .ensures ∙ sym (by-selectors _ (λ low high. omega arith) _ _)
 
 pub components2-spec : {M : Type 1} → statement M
 components2-spec =
     tie.close
-    (tie.spec returns among-requires returns-2 selectors2-requires named-requires returns-3)
+    (tie.spec selected2-requires returns returns-2 returns-3 selected2-requires-2 returns-4)
