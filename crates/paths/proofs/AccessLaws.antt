@@ -8,7 +8,7 @@ use native.Mathlib.Nat.{div-one}
 use native.Mathlib.Omega.{arith}
 use lib.Bits.{bitOr}
 use lib.Dec.{eqb}
-use borrow.Author.Tests.{eqb-true}
+use borrow.Author.Tests.{eqb-true, eq-eqb, ne-eqb}
 use Rattle.laws.specs.Tests.{every}
 use Rattle.laws.proofs.Every.{below}
 use Rattle.bytecode.specs.Opcodes.{isIn, kil, tex}
@@ -19,10 +19,9 @@ use Rattle.paths.specs.Check.{lacks}
 use Rattle.paths.specs.Reads.{keep, those, firstFew, bitOf, maskComponents, selector, named, m33, m34, m44}
 use Rattle.paths.specs.Reads.{byThree1, byThree2, byFour1, byFour2, selectors1, selectors2, components2, rowCount2}
 use Rattle.paths.specs.Reads.{rowsOf, readsThrough, maskOf, dimensionOf, reads1, reads2, temporaries}
-use Rattle.paths.specs.Access.{accessed, namedSet, selectorSet1, selectorSet2, readSet2}
-use Rattle.paths.specs.Access.{accessThrough, swizzleOf, access1Of, access2Of}
+use Rattle.paths.specs.Access.{Access, accessed, lacksAccess, namedSet, selectorSet1, selectorSet2, readSet2}
+use Rattle.paths.specs.Access.{accessThrough, components1Of, components2Of, access1Of, access2Of}
 use Rattle.paths.specs.Written.{componentSet, lacksOf}
-use Rattle.paths.specs.declared.access.Access.{Access}
 use Rattle.paths.specs.declared.written.Written.{Written}
 use Rattle.paths.proofs.Bits.{same, same→eq, bit-or}
 use Rattle.paths.proofs.Numbers.{temporaries-other-rows}
@@ -126,10 +125,10 @@ one-component (suc (suc zero)) h = refl
 one-component (suc (suc (suc zero))) h = refl
 one-component (suc (suc (suc (suc q)))) h = absurd (omega arith)
 
-accessed-through : (op : Operand) (rows set : ℕ) (f : ℕ → List ℕ) → maskComponents set ≡ f (swizzleOf op)
-    → accessed (accessThrough op rows set) ≡ readsThrough rows f op
+accessed-through : (op : Operand) (rows : ℕ) (set : ℕ → ℕ) (f : ℕ → List ℕ) → ((z : ℕ) → maskComponents (set z) ≡ f z)
+    → accessed (accessThrough rows set op) ≡ readsThrough rows f op
 accessed-through NoOperand rows set f h = refl
-accessed-through (Direct s) rows set f h = ap (rowsOf (s .kind) (s .number) rows) h
+accessed-through (Direct s) rows set f h = ap (rowsOf (s .kind) (s .number) rows) (h (s .swizzle))
 accessed-through (Indexed s) rows set f h = rw (one-component (s .component % 4) (omega arith))
 accessed-through (Sampled s) rows set f h = refl
 
@@ -137,20 +136,17 @@ pub accessed1 : (t : Token) → accessed (access1Of t) ≡ reads1 t
 accessed1 t =
     let m = maskOf (t .destination) in
     let d = dimensionOf (t .source2) in
-    let z = swizzleOf (t .source1) in
-    accessed-through (t .source1) 1 _ (λ z. named z (selectors1 (t .opcode) m d))
-    (named-components z (selectorSet1 (t .opcode) m d) ∙ ap (named z) (selectors1-components (t .opcode) m d))
+    accessed-through (t .source1) 1 (components1Of t) (λ z. named z (selectors1 (t .opcode) m d))
+    (λ z. named-components z (selectorSet1 (t .opcode) m d) ∙ ap (named z) (selectors1-components (t .opcode) m d))
 
 pub accessed2 : (t : Token) → accessed (access2Of t) ≡ reads2 t
 accessed2 t =
     let m = maskOf (t .destination) in
-    accessed-through (t .source2) (rowCount2 (t .opcode)) _ (components2 (t .opcode) m)
-    (components2-components (t .opcode) m (swizzleOf (t .source2)))
+    accessed-through (t .source2) (rowCount2 (t .opcode)) (components2Of t) (components2 (t .opcode) m) (components2-components (t .opcode) m)
 
 -- ---- what a set lacks of an access
 
-pub lacks-accessed : (s : Written) (a : Access)
-    → lacks (componentSet s) (temporaries (accessed a)) ≡ (eqb (a .kind) 2 && lacksOf s (a .register) (a .rows) (a .components))
+pub lacks-accessed : (s : Written) (a : Access) → lacks (componentSet s) (temporaries (accessed a)) ≡ lacksAccess s a
 unfolding lacksOf
 lacks-accessed s a = go (eqb (a .kind) 2) refl
   where
@@ -161,13 +157,16 @@ lacks-accessed s a = go (eqb (a .kind) 2) refl
         ap (λ k. lacks (componentSet s) (temporaries (rowsOf k (a .register) (a .rows) cs))) (eqb-true _ _ e)
     go false e = ap (lacks (componentSet s)) (temporaries-other-rows (a .kind) (a .register) (a .rows) (maskComponents (a .components)) e)
 
+-- as the code tests it, first by the kind
+pub temporary : (s : Written) (a : Access) → a .kind ≡ 2 → lacksOf s (a .register) (a .rows) (a .components) ≡ lacksAccess s a
+temporary s a e = rw (eq-eqb (a .kind) 2 e)
+
+pub not-temporary : (s : Written) (a : Access) → (a .kind ≡ 2 → ⊥) → false ≡ lacksAccess s a
+not-temporary s a e = rw (ne-eqb (a .kind) 2 e)
+
 -- so the code's test of an access is the check's test of what a token reads
-pub lacks-reads1 : (s : Written) (t : Token)
-    → lacks (componentSet s) (temporaries (reads1 t))
-    ≡ (eqb (access1Of t .kind) 2 && lacksOf s (access1Of t .register) (access1Of t .rows) (access1Of t .components))
+pub lacks-reads1 : (s : Written) (t : Token) → lacks (componentSet s) (temporaries (reads1 t)) ≡ lacksAccess s (access1Of t)
 lacks-reads1 s t = ap (λ l. lacks (componentSet s) (temporaries l)) (sym (accessed1 t)) ∙ lacks-accessed s (access1Of t)
 
-pub lacks-reads2 : (s : Written) (t : Token)
-    → lacks (componentSet s) (temporaries (reads2 t))
-    ≡ (eqb (access2Of t .kind) 2 && lacksOf s (access2Of t .register) (access2Of t .rows) (access2Of t .components))
+pub lacks-reads2 : (s : Written) (t : Token) → lacks (componentSet s) (temporaries (reads2 t)) ≡ lacksAccess s (access2Of t)
 lacks-reads2 s t = ap (λ l. lacks (componentSet s) (temporaries l)) (sym (accessed2 t)) ∙ lacks-accessed s (access2Of t)

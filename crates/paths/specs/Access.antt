@@ -6,17 +6,30 @@ use mathlib.Core.List.{List, [], _∷_}
 use lib.Bits.{bitOr}
 use lib.Dec.{ltb, eqb}
 use Rattle.bytecode.specs.Opcodes.{isIn, kil, tex}
+use Rattle.bytecode.specs.declared.record.DirectSource.{DirectSource}
 use Rattle.bytecode.specs.declared.record.IndexedSource.{IndexedSource}
 use Rattle.bytecode.specs.declared.record.Operand.{Operand}
 use Rattle.bytecode.specs.declared.record.Operand.the-variants.{Unused as NoOperand, Direct, Indexed, Sampler as Sampled}
 use Rattle.bytecode.specs.declared.record.Token.{Token}
 use Rattle.paths.specs.Reads.{Component, bitOf, maskComponents, rowsOf, maskOf, dimensionOf, rowCount2}
 use Rattle.paths.specs.Reads.{m33, m34, m44, byThree1, byThree2, byFour1, byFour2}
-use Rattle.paths.specs.declared.access.Access.{Access}
+use Rattle.paths.specs.Written.{lacksOf}
+use Rattle.paths.specs.declared.written.Written.{Written}
+
+-- a register of some kind, how many rows from it, and the components that are read of each: bit 0 is x, bit 3 is w
+pub record Access : Type 0 where
+  pub kind : ℕ
+  pub register : ℕ
+  pub rows : ℕ
+  pub components : ℕ
 
 -- the components that an access stands for, rising
 abbrev pub accessed : Access → List Component
 accessed a = rowsOf (a .kind) (a .register) (a .rows) (maskComponents (a .components))
+
+-- an access reads a temporary component that is not written
+abbrev pub lacksAccess : Written → Access → Bool
+lacksAccess s a = eqb (a .kind) 2 && lacksOf s (a .register) (a .rows) (a .components)
 
 -- the set of components that a swizzle names by a set of selectors; bit i of either is component or selector i
 unfoldable pub namedSet : ℕ → ℕ → ℕ
@@ -58,28 +71,29 @@ noAccess = record { kind = 0; register = 0; rows = 0; components = 0 }
 abbrev pub indexAccess : IndexedSource → Access
 indexAccess s = record { kind = s .«index_kind»; register = s .number; rows = 1; components = 1 * 2 ^ (s .component % 4) }
 
--- what is read through an operand; rows and components are those of a direct source
-abbrev pub accessThrough : Operand → ℕ → ℕ → Access
-accessThrough NoOperand rows components = noAccess
-accessThrough (Direct s) rows components = record { kind = s .kind; register = s .number; rows = rows; components = components }
-accessThrough (Indexed s) rows components = indexAccess s
-accessThrough (Sampled s) rows components = noAccess
+-- of a direct source some rows, and the components that its swizzle gives
+abbrev pub directAccess : ℕ → (ℕ → ℕ) → DirectSource → Access
+directAccess rows components s = record { kind = s .kind; register = s .number; rows = rows; components = components (s .swizzle) }
 
--- the swizzle of a direct source
-abbrev pub swizzleOf : Operand → ℕ
-swizzleOf NoOperand = 0
-swizzleOf (Direct s) = s .swizzle
-swizzleOf (Indexed s) = 0
-swizzleOf (Sampled s) = 0
+-- what is read through an operand; rows and components are those of a direct source
+abbrev pub accessThrough : ℕ → (ℕ → ℕ) → Operand → Access
+accessThrough rows components NoOperand = noAccess
+accessThrough rows components (Direct s) = directAccess rows components s
+accessThrough rows components (Indexed s) = indexAccess s
+accessThrough rows components (Sampled s) = noAccess
+
+-- the components that a token reads through source 1 by a swizzle
+abbrev pub components1Of : Token → ℕ → ℕ
+components1Of t swizzle = namedSet swizzle (selectorSet1 (t .opcode) (maskOf (t .destination)) (dimensionOf (t .source2)))
+
+-- and through source 2
+abbrev pub components2Of : Token → ℕ → ℕ
+components2Of t swizzle = readSet2 (t .opcode) (maskOf (t .destination)) swizzle
 
 -- what a token reads through source 1
 abbrev pub access1Of : Token → Access
-access1Of t =
-    accessThrough (t .source1) 1
-    (namedSet (swizzleOf (t .source1)) (selectorSet1 (t .opcode) (maskOf (t .destination)) (dimensionOf (t .source2))))
+access1Of t = accessThrough 1 (components1Of t) (t .source1)
 
 -- what it reads through source 2
 abbrev pub access2Of : Token → Access
-access2Of t =
-    accessThrough (t .source2) (rowCount2 (t .opcode))
-    (readSet2 (t .opcode) (maskOf (t .destination)) (swizzleOf (t .source2)))
+access2Of t = accessThrough (rowCount2 (t .opcode)) (components2Of t) (t .source2)

@@ -1,22 +1,16 @@
-// What a token reads through each source, from its fields and what its opcode holds.
+// Whether a token reads what is not written, from its fields and what its opcode holds.
 ghost use mathlib.Core.Path.{_≡_};
 ghost use Prim.Native.Nat.{_*_, _^_, _<_};
 ghost use Rattle.bytecode.specs.Records.{directOf, sourceOf, destinationOf, operandOf, tokenOf};
 ghost use Rattle.paths.specs.Reads.{maskOf, dimensionOf, rowCount2};
 ghost use Rattle.paths.specs.Access.{amongOf, namedSet, coordinateSet, selectorSet1, selectorSet2, readSet2};
-ghost use Rattle.paths.specs.Access.{noAccess, indexAccess, accessThrough, access1Of, access2Of};
+ghost use Rattle.paths.specs.Access.{lacksAccess, directAccess, indexAccess, accessThrough, components1Of, components2Of, access1Of, access2Of};
+use crate::written;
+use crate::written::Written;
 use bytecode::fields::Fields;
 use bytecode::opcodes::OperandShape;
 use bytecode::opcodes::Shape;
 use bytecode::record::IndexedSource;
-
-// A register of some kind, how many rows from it, and the components that are read of each: bit 0 is x, bit 3 is w.
-pub struct Access {
-    pub kind: u8,
-    pub register: u16,
-    pub rows: u8,
-    pub components: u8,
-}
 
 const M33: u32 = 0x17;
 
@@ -48,79 +42,84 @@ const FIRST_THREE: u8 = 7;
 
 const ALL_FOUR: u8 = 15;
 
-// What a token reads through source 1.
-pub fn access1(shape: Shape, f: Fields) -> Access
-    ensures { λ r. ⌜ r ≡ access1Of (tokenOf shape f) ⌝ }
+// Whether a token reads through source 1 a temporary component that is not written.
+pub fn reads_unwritten1(current: Written, shape: Shape, f: Fields) -> bool
+    ensures { λ r. ⌜ r ≡ lacksAccess current (access1Of (tokenOf shape f)) ⌝ }
 {
     let shape1 = shape.source1;
-    let shape2 = shape.source2;
+    match shape1 {
+        OperandShape::Unused => false,
+        OperandShape::Source => source_unwritten1(current, shape, f),
+        OperandShape::Sampler => false,
+    }
+}
+
+fn source_unwritten1(current: Written, shape: Shape, f: Fields) -> bool
+    ensures { λ r. ⌜ r ≡ lacksAccess current (accessThrough 1 (components1Of (tokenOf shape f)) (sourceOf (f .source1))) ⌝ }
+{
+    if bytecode::is_indexed(f.source1) {
+        return index_unwritten(current, bytecode::unpack_indexed(f.source1));
+    }
+    direct_unwritten1(current, shape, f)
+}
+
+// What the opcode reads is asked only where the register is a temporary one.
+fn direct_unwritten1(current: Written, shape: Shape, f: Fields) -> bool
+    ensures { λ r. ⌜ r ≡ lacksAccess current (directAccess 1 (components1Of (tokenOf shape f)) (directOf (f .source1))) ⌝ }
+{
+    let source = bytecode::unpack_direct(f.source1);
+    if source.kind != 2 {
+        return false;
+    }
     let mask = mask_of(shape.destination, f.destination);
+    let shape2 = shape.source2;
     let selectors = selectors1(f.opcode, mask, dimension_of(shape2, f.source2));
-    through(
-        shape1,
-        f.source1,
-        1,
-        named(swizzle_of(f.source1), selectors),
-    )
+    let components = named(source.swizzle, selectors);
+    written::lacks(current, source.number, 1, components)
 }
 
-// What a token reads through source 2.
-pub fn access2(shape: Shape, f: Fields) -> Access
-    ensures { λ r. ⌜ r ≡ access2Of (tokenOf shape f) ⌝ }
+// The same of source 2.
+pub fn reads_unwritten2(current: Written, shape: Shape, f: Fields) -> bool
+    ensures { λ r. ⌜ r ≡ lacksAccess current (access2Of (tokenOf shape f)) ⌝ }
 {
     let shape2 = shape.source2;
+    match shape2 {
+        OperandShape::Unused => false,
+        OperandShape::Source => source_unwritten2(current, shape, f),
+        OperandShape::Sampler => false,
+    }
+}
+
+fn source_unwritten2(current: Written, shape: Shape, f: Fields) -> bool
+    ensures { λ r. ⌜ r ≡ lacksAccess current (accessThrough (rowCount2 (f .opcode)) (components2Of (tokenOf shape f)) (sourceOf (f .source2))) ⌝ }
+{
+    if bytecode::is_indexed(f.source2) {
+        return index_unwritten(current, bytecode::unpack_indexed(f.source2));
+    }
+    direct_unwritten2(current, shape, f)
+}
+
+fn direct_unwritten2(current: Written, shape: Shape, f: Fields) -> bool
+    ensures { λ r. ⌜ r ≡ lacksAccess current (directAccess (rowCount2 (f .opcode)) (components2Of (tokenOf shape f)) (directOf (f .source2))) ⌝ }
+{
+    let source = bytecode::unpack_direct(f.source2);
+    if source.kind != 2 {
+        return false;
+    }
     let mask = mask_of(shape.destination, f.destination);
-    let components = components2(f.opcode, mask, swizzle_of(f.source2));
-    through(shape2, f.source2, rows2(f.opcode), components)
-}
-
-// What is read through an operand: rows and components count for a direct source only.
-fn through(shape: OperandShape, field: u64, rows: u8, components: u8) -> Access
-    ensures { λ r. ⌜ r ≡ accessThrough (operandOf shape field) rows components ⌝ }
-{
-    match shape {
-        OperandShape::Unused => nothing(),
-        OperandShape::Source => through_source(field, rows, components),
-        OperandShape::Sampler => nothing(),
-    }
-}
-
-fn through_source(field: u64, rows: u8, components: u8) -> Access
-    ensures { λ r. ⌜ r ≡ accessThrough (sourceOf field) rows components ⌝ }
-{
-    if bytecode::is_indexed(field) {
-        return index_of(bytecode::unpack_indexed(field));
-    }
-    let source = bytecode::unpack_direct(field);
-    Access {
-        kind: source.kind,
-        register: source.number,
-        rows,
-        components,
-    }
-}
-
-fn nothing() -> Access
-    ensures { λ r. ⌜ r ≡ noAccess ⌝ }
-{
-    Access {
-        kind: 0,
-        register: 0,
-        rows: 0,
-        components: 0,
-    }
+    let components = components2(f.opcode, mask, source.swizzle);
+    written::lacks(current, source.number, rows2(f.opcode), components)
 }
 
 // An indexed source reads one component of its index register.
-fn index_of(source: IndexedSource) -> Access
-    ensures { λ r. ⌜ r ≡ indexAccess source ⌝ }
+fn index_unwritten(current: Written, source: IndexedSource) -> bool
+    ensures { λ r. ⌜ r ≡ lacksAccess current (indexAccess source) ⌝ }
 {
-    Access {
-        kind: source.index_kind,
-        register: source.number,
-        rows: 1,
-        components: chosen(1, source.component % 4),
+    if source.index_kind != 2 {
+        return false;
     }
+    let component = chosen(1, source.component % 4);
+    written::lacks(current, source.number, 1, component)
 }
 
 fn mask_of(used: bool, field: u64) -> u8
@@ -131,14 +130,6 @@ fn mask_of(used: bool, field: u64) -> u8
         return register.mask;
     }
     0
-}
-
-// The swizzle that a field has if it is that of a direct source: no other operand is read through one.
-fn swizzle_of(field: u64) -> u8
-    ensures { λ r. ⌜ r ≡ directOf field .swizzle ⌝ }
-{
-    let source = bytecode::unpack_direct(field);
-    source.swizzle
 }
 
 fn dimension_of(shape: OperandShape, field: u64) -> u8

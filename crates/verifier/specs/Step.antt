@@ -1,6 +1,6 @@
 -- One token of the check, on what it can touch of the state that the code keeps.
 use Prim.Native.Nat.{ℕ}
-use mathlib.Core.Bool.{Bool, cond, _&&_}
+use mathlib.Core.Bool.{cond}
 use mathlib.Core.List.{List}
 use lib.Dec.{eqb}
 use lib.ListN.{getD}
@@ -9,10 +9,7 @@ use Rattle.bytecode.specs.declared.answers.Refusal.{Refusal}
 use Rattle.bytecode.specs.declared.answers.Decoded.{Decoded}
 use Rattle.bytecode.specs.declared.answers.Decoded.the-variants.{Token as Accepted, Refused}
 use Rattle.bytecode.specs.declared.record.Token.{Token}
-use Rattle.paths.specs.Access.{access1Of, access2Of}
-use Rattle.paths.specs.Written.{lacksOf}
-use Rattle.paths.specs.declared.access.Access.{Access}
-use Rattle.paths.specs.declared.written.Written.{Written}
+use Rattle.paths.specs.Access.{lacksAccess, access1Of, access2Of}
 use Rattle.verifier.specs.Faults.{ownFault, undecodedFault}
 use Rattle.verifier.specs.State.{flowOfCode, isMisplaced, metTop, wroteTop, partedTop}
 use Rattle.verifier.specs.declared.profile.Profile.{Profile}
@@ -21,9 +18,6 @@ use Rattle.verifier.specs.declared.step.Stepped.{Stepped}
 
 abbrev pub stepped : Refusal → Top → Stepped
 stepped f st = record { fault = f; top = st }
-
-abbrev pub lacksAccess : Written → Access → Bool
-lacksAccess w a = eqb (a .kind) 2 && lacksOf w (a .register) (a .rows) (a .components)
 
 -- the top after a token without a fault
 abbrev pub nextOf : Top → ℕ → Token → Top

@@ -2,7 +2,7 @@
 ghost use mathlib.Core.Path.{_≡_};
 ghost use lib.ListN.{getD};
 ghost use Rattle.bytecode.specs.Records.{tokenOf};
-ghost use Rattle.verifier.specs.Step.{stepOf, takeOf, followOf, lacksAccess};
+ghost use Rattle.verifier.specs.Step.{stepOf, takeOf, followOf};
 use crate::faults;
 use crate::profile::Profile;
 use crate::state;
@@ -11,9 +11,6 @@ use bytecode::answers::Refusal;
 use bytecode::fields::Fields;
 use bytecode::opcodes::Shape;
 use paths::access;
-use paths::access::Access;
-use paths::written;
-use paths::written::Written;
 
 // A fault with number 0 is none, and only then is the top the next one.
 pub struct Stepped {
@@ -59,11 +56,11 @@ impl Top {
         }
         let met = self.met(flow);
         let current = met.current;
-        if lacks_access(current, access::access1(shape, f)) {
+        if access::reads_unwritten1(current, shape, f) {
             let fault = faults::refusal(21, token, 2);
             return Stepped { fault, top: self };
         }
-        if lacks_access(current, access::access2(shape, f)) {
+        if access::reads_unwritten2(current, shape, f) {
             let fault = faults::refusal(21, token, 3);
             return Stepped { fault, top: self };
         }
@@ -72,16 +69,6 @@ impl Top {
             .parted(flow, token);
         Stepped { fault, top: next }
     }
-}
-
-// Whether an access reads a temporary component that is not written.
-fn lacks_access(current: Written, a: Access) -> bool
-    ensures { λ r. ⌜ r ≡ lacksAccess current a ⌝ }
-{
-    if a.kind != 2 {
-        return false;
-    }
-    written::lacks(current, a.register, a.rows, a.components)
 }
 
 fn first_byte(bytes: &[u8]) -> u8

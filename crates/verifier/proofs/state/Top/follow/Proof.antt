@@ -28,11 +28,8 @@ returns c =
 met-requires : tie.Need-met-requires
 met-requires c κs = search needs
 
-access1-requires : tie.Need-access1-requires
-access1-requires c κs = search needs
-
-lacks-access-requires : tie.Need-lacks-access-requires
-lacks-access-requires c κs = search needs
+reads-unwritten1-requires : tie.Need-reads-unwritten1-requires
+reads-unwritten1-requires c κs = search needs
 
 refusal-requires-2 : tie.Need-refusal-requires-2
 refusal-requires-2 c κs = search needs
@@ -41,21 +38,17 @@ returns-2 : tie.Need-returns-2
 unfolding followOf tokenOf
 returns-2 c =
     simp (
-      ← c .before .before .before .before .before .before .before .before .flow-of .ensures,
-      ← c .before .before .before .before .before .before .before .is-misplaced .ensures,
-      c .before .before .before .before .before .before .if1 .left,
-      ← c .before .before .before .before .before .met .ensures,
-      ← c .before .before .before .access1 .ensures,
-      ← c .before .before .lacks-access .ensures,
+      ← c .before .before .before .before .before .before .before .flow-of .ensures,
+      ← c .before .before .before .before .before .before .is-misplaced .ensures,
+      c .before .before .before .before .before .if1 .left,
+      ← c .before .before .before .before .met .ensures,
+      ← c .before .before .reads-unwritten1 .ensures,
       c .before .if2 .taken,
       c .refusal2 .ensures,
     )
 
-access2-requires : tie.Need-access2-requires
-access2-requires c κs = search needs
-
-lacks-access-requires-2 : tie.Need-lacks-access-requires-2
-lacks-access-requires-2 c κs = search needs
+reads-unwritten2-requires : tie.Need-reads-unwritten2-requires
+reads-unwritten2-requires c κs = search needs
 
 refusal-requires-3 : tie.Need-refusal-requires-3
 refusal-requires-3 c κs = search needs
@@ -64,15 +57,13 @@ returns-3 : tie.Need-returns-3
 unfolding followOf tokenOf
 returns-3 c =
     simp (
-      ← c .before .before .before .before .before .before .before .before .before .before .before .flow-of .ensures,
-      ← c .before .before .before .before .before .before .before .before .before .before .is-misplaced .ensures,
-      c .before .before .before .before .before .before .before .before .before .if1 .left,
-      ← c .before .before .before .before .before .before .before .before .met .ensures,
-      ← c .before .before .before .before .before .before .access1 .ensures,
-      ← c .before .before .before .before .before .lacks-access .ensures,
-      c .before .before .before .before .if2 .left,
-      ← c .before .before .before .access2 .ensures,
-      ← c .before .before .lacks-access2 .ensures,
+      ← c .before .before .before .before .before .before .before .before .before .flow-of .ensures,
+      ← c .before .before .before .before .before .before .before .before .is-misplaced .ensures,
+      c .before .before .before .before .before .before .before .if1 .left,
+      ← c .before .before .before .before .before .before .met .ensures,
+      ← c .before .before .before .before .reads-unwritten1 .ensures,
+      c .before .before .before .if2 .left,
+      ← c .before .before .reads-unwritten2 .ensures,
       c .before .if3 .taken,
       c .refusal3 .ensures,
     )
@@ -90,15 +81,13 @@ returns-4 : tie.Need-returns-4
 unfolding followOf tokenOf
 returns-4 c =
     simp (
-      ← c .before .before .before .before .before .before .before .before .before .before .before .before .before .flow-of .ensures,
-      ← c .before .before .before .before .before .before .before .before .before .before .before .before .is-misplaced .ensures,
-      c .before .before .before .before .before .before .before .before .before .before .before .if1 .left,
-      ← c .before .before .before .before .before .before .before .before .before .before .met .ensures,
-      ← c .before .before .before .before .before .before .before .before .access1 .ensures,
-      ← c .before .before .before .before .before .before .before .lacks-access .ensures,
-      c .before .before .before .before .before .before .if2 .left,
-      ← c .before .before .before .before .before .access2 .ensures,
-      ← c .before .before .before .before .lacks-access2 .ensures,
+      ← c .before .before .before .before .before .before .before .before .before .before .before .flow-of .ensures,
+      ← c .before .before .before .before .before .before .before .before .before .before .is-misplaced .ensures,
+      c .before .before .before .before .before .before .before .before .before .if1 .left,
+      ← c .before .before .before .before .before .before .before .before .met .ensures,
+      ← c .before .before .before .before .before .before .reads-unwritten1 .ensures,
+      c .before .before .before .before .before .if2 .left,
+      ← c .before .before .before .before .reads-unwritten2 .ensures,
       c .before .before .before .if3 .left,
       c .before .before .refusal4 .ensures,
       ← c .before .wrote .ensures,
@@ -114,12 +103,10 @@ follow-spec =
     refusal-requires
     returns
     met-requires
-    access1-requires
-    lacks-access-requires
+    reads-unwritten1-requires
     refusal-requires-2
     returns-2
-    access2-requires
-    lacks-access-requires-2
+    reads-unwritten2-requires
     refusal-requires-3
     returns-3
     refusal-requires-4

@@ -1,0 +1,63 @@
+-- `direct_unwritten1` meets its contract.
+-- Assumes nothing.
+use mathlib.Core.Path.{_∙_, ap}
+use Rattle.bytecode.specs.Records.{tokenOf}
+use Rattle.paths.specs.Access.{lacksAccess, directAccess, components1Of}
+use Rattle.paths.proofs.AccessLaws.{temporary, not-temporary}
+use borrow.Author.Needs.{needs}
+use Rattle.paths.proofs.access.direct_unwritten1.Statement.{statement}
+use Rattle.paths.proofs.access.direct_unwritten1.Tie as tie
+
+unpack-direct-requires : tie.Need-unpack-direct-requires
+unpack-direct-requires c κs = search needs
+
+returns : tie.Need-returns
+returns c =
+    let a = c .before .before .before .args in
+    let source = c .before .before .unpack-direct in
+    not-temporary _ (directAccess 1 (components1Of (tokenOf (a .shape) (a .f))) (source .result)) (c .if1 .taken)
+    ∙ ap (λ s. lacksAccess (a .current) (directAccess 1 (components1Of (tokenOf (a .shape) (a .f))) s)) (source .ensures)
+
+mask-of-requires : tie.Need-mask-of-requires
+mask-of-requires c κs = search needs
+
+dimension-of-requires : tie.Need-dimension-of-requires
+dimension-of-requires c κs = search needs
+
+selectors1-requires : tie.Need-selectors1-requires
+selectors1-requires c κs = search needs
+
+named-requires : tie.Need-named-requires
+named-requires c κs = search needs
+
+lacks-requires : tie.Need-lacks-requires
+lacks-requires c κs = search needs
+
+returns-2 : tie.Need-returns-2
+unfolding tokenOf
+returns-2 c =
+    let entry = c .before .before .before .before .before in
+    let a = entry .before .before .before .args in
+    let source = entry .before .before .unpack-direct in
+    simp (
+      c .before .before .before .before .mask-of .ensures,
+      c .before .before .before .dimension-of .ensures,
+      c .before .before .selectors1 .ensures,
+      c .before .named .ensures,
+      c .lacks .ensures,
+    )
+    (temporary _ (directAccess 1 (components1Of (tokenOf (a .shape) (a .f))) (source .result)) (entry .if1 .left)
+    ∙ ap (λ s. lacksAccess (a .current) (directAccess 1 (components1Of (tokenOf (a .shape) (a .f))) s)) (source .ensures))
+
+pub direct-unwritten1-spec : {M : Type 1} → statement M
+direct-unwritten1-spec =
+    tie.close
+    (tie.spec
+    unpack-direct-requires
+    returns
+    mask-of-requires
+    dimension-of-requires
+    selectors1-requires
+    named-requires
+    lacks-requires
+    returns-2)
