@@ -1,7 +1,7 @@
 -- An access stands for exactly the components that document 01 says are read through the source.
 -- Assumes nothing.
 use Prim.Native.Nat.{ℕ, zero, suc, _*_, _/_, _%_, _^_, _<_}
-use mathlib.Core.Bool.{Bool, true, false, cond, _&&_, _||_, or-false}
+use mathlib.Core.Bool.{Bool, true, false, not, cond, _&&_, _||_, and-false, or-false}
 use mathlib.Core.List.{List, [], _∷_, map}
 use mathlib.Core.Path.{_≡_, refl, sym, ap, _∙_}
 use native.Mathlib.Nat.{div-one}
@@ -24,6 +24,7 @@ use Rattle.paths.specs.Access.{accessThrough, components1Of, components2
 use Rattle.paths.specs.Written.{componentSet, lacksOf}
 use Rattle.paths.specs.declared.written.Written.{Written}
 use Rattle.paths.proofs.Bits.{same, same→eq, bit-or}
+use Rattle.paths.proofs.Lacking.{lacks-nothing}
 use Rattle.paths.proofs.Numbers.{temporaries-other-rows}
 
 -- ---- the components that a swizzle names
@@ -163,6 +164,15 @@ temporary s a e = rw (eq-eqb (a .kind) 2 e)
 
 pub not-temporary : (s : Written) (a : Access) → (a .kind ≡ 2 → ⊥) → false ≡ lacksAccess s a
 not-temporary s a e = rw (ne-eqb (a .kind) 2 e)
+
+-- and then by all four components
+pub nothing-lacks : (s : Written) (a : Access) {b : Bool} → b ≡ lacksOf s (a .register) (a .rows) 15 → not b ≡ true → false ≡ lacksAccess s a
+nothing-lacks s a e h =
+    rw (lacks-nothing s (a .register) (a .rows) (a .components) (sym e ∙ is-false _ h)) (sym (and-false (eqb (a .kind) 2)))
+  where
+    is-false : (b : Bool) → not b ≡ true → b ≡ false
+    is-false true e = sym e
+    is-false false e = refl
 
 -- so the code's test of an access is the check's test of what a token reads
 pub lacks-reads1 : (s : Written) (t : Token) → lacks (componentSet s) (temporaries (reads1 t)) ≡ lacksAccess s (access1Of t)

@@ -4,7 +4,7 @@ use Prim.Native.Nat.{ℕ, zero, suc, _*_, _/_, _%_, _^_, _<_}
 use mathlib.Core.Bool.{Bool, true, false, not, _&&_, _||_, and-true}
 use mathlib.Core.Path.{_≡_, refl, sym, ap, _∙_}
 use native.Mathlib.Omega.{arith}
-use lib.Bits.{bitAnd, bitOr, and-shr, or-shr, and-mod, or-mod, and-mask, and-le-l}
+use lib.Bits.{bitAnd, bitOr, and-shr, or-shr, and-mod, or-mod, and-comm, and-mask, and-le-l}
 use lib.Dec.{T, eqb}
 use borrow.Author.Tests.{eqb-true, eqb-false, eq-eqb, ne-eqb}
 use Rattle.laws.specs.Tests.{every}
@@ -92,6 +92,17 @@ misses-is m h =
       low-and m h,
     )
     (misses-four (m % 16) (h % 16) (omega arith) (omega arith))
+
+-- a number with all four bits misses none of any other
+pub misses-none : (m h : ℕ) → not (eqb (bitAnd 15 h) 15) ≡ false → not (eqb (bitAnd (m % 16) h) (m % 16)) ≡ false
+misses-none m h e =
+    let all : h % 16 ≡ 15 = sym (and-mask h 4) ∙ and-comm h 15 ∙ eqb-true (bitAnd 15 h) 15 (is-not-false _ e) in
+    let once : m % 16 % 16 ≡ m % 16 = omega arith in
+    ap not (eq-eqb (bitAnd (m % 16) h) (m % 16) (low-and m h ∙ ap (bitAnd (m % 16)) all ∙ and-mask (m % 16) 4 ∙ once))
+  where
+    is-not-false : (b : Bool) → not b ≡ false → b ≡ true
+    is-not-false true e = refl
+    is-not-false false e = sym e
 
 -- four bits at the place of one of 16 registers
 abbrev placed : ℕ → ℕ → ℕ → Bool

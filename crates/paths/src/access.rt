@@ -63,12 +63,15 @@ fn source_unwritten1(current: Written, shape: Shape, f: Fields) -> bool
     direct_unwritten1(current, shape, f)
 }
 
-// What the opcode reads is asked only where the register is a temporary one.
+// What the opcode reads is asked only where the register is a temporary one, and lacks something.
 fn direct_unwritten1(current: Written, shape: Shape, f: Fields) -> bool
     ensures { λ r. ⌜ r ≡ lacksAccess current (directAccess 1 (components1Of (tokenOf shape f)) (directOf (f .source1))) ⌝ }
 {
     let source = bytecode::unpack_direct(f.source1);
     if source.kind != 2 {
+        return false;
+    }
+    if !written::lacks(current, source.number, 1, ALL_FOUR) {
         return false;
     }
     let mask = mask_of(shape.destination, f.destination);
@@ -106,9 +109,13 @@ fn direct_unwritten2(current: Written, shape: Shape, f: Fields) -> bool
     if source.kind != 2 {
         return false;
     }
+    let rows = rows2(f.opcode);
+    if !written::lacks(current, source.number, rows, ALL_FOUR) {
+        return false;
+    }
     let mask = mask_of(shape.destination, f.destination);
     let components = components2(f.opcode, mask, source.swizzle);
-    written::lacks(current, source.number, rows2(f.opcode), components)
+    written::lacks(current, source.number, rows, components)
 }
 
 // An indexed source reads one component of its index register.

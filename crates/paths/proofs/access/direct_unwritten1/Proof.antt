@@ -3,7 +3,7 @@
 use mathlib.Core.Path.{_∙_, ap}
 use Rattle.bytecode.specs.Records.{tokenOf}
 use Rattle.paths.specs.Access.{lacksAccess, directAccess, components1Of}
-use Rattle.paths.proofs.AccessLaws.{temporary, not-temporary}
+use Rattle.paths.proofs.AccessLaws.{temporary, not-temporary, nothing-lacks}
 use borrow.Author.Needs.{needs}
 use Rattle.paths.proofs.access.direct_unwritten1.Statement.{statement}
 use Rattle.paths.proofs.access.direct_unwritten1.Tie as tie
@@ -18,6 +18,17 @@ returns c =
     not-temporary _ (directAccess 1 (components1Of (tokenOf (a .shape) (a .f))) (source .result)) (c .if1 .taken)
     ∙ ap (λ s. lacksAccess (a .current) (directAccess 1 (components1Of (tokenOf (a .shape) (a .f))) s)) (source .ensures)
 
+lacks-requires : tie.Need-lacks-requires
+lacks-requires c κs = search needs
+
+returns-2 : tie.Need-returns-2
+returns-2 c =
+    let entry = c .before .before in
+    let a = entry .before .before .before .args in
+    let source = entry .before .before .unpack-direct in
+    nothing-lacks _ (directAccess 1 (components1Of (tokenOf (a .shape) (a .f))) (source .result)) (c .before .lacks .ensures) (c .if2 .taken)
+    ∙ ap (λ s. lacksAccess (a .current) (directAccess 1 (components1Of (tokenOf (a .shape) (a .f))) s)) (source .ensures)
+
 mask-of-requires : tie.Need-mask-of-requires
 mask-of-requires c κs = search needs
 
@@ -30,13 +41,13 @@ selectors1-requires c κs = search needs
 named-requires : tie.Need-named-requires
 named-requires c κs = search needs
 
-lacks-requires : tie.Need-lacks-requires
-lacks-requires c κs = search needs
+lacks-requires-2 : tie.Need-lacks-requires-2
+lacks-requires-2 c κs = search needs
 
-returns-2 : tie.Need-returns-2
+returns-3 : tie.Need-returns-3
 unfolding tokenOf
-returns-2 c =
-    let entry = c .before .before .before .before .before in
+returns-3 c =
+    let entry = c .before .before .before .before .before .before .before in
     let a = entry .before .before .before .args in
     let source = entry .before .before .unpack-direct in
     simp (
@@ -44,7 +55,7 @@ returns-2 c =
       c .before .before .before .dimension-of .ensures,
       c .before .before .selectors1 .ensures,
       c .before .named .ensures,
-      c .lacks .ensures,
+      c .lacks2 .ensures,
     )
     (temporary _ (directAccess 1 (components1Of (tokenOf (a .shape) (a .f))) (source .result)) (entry .if1 .left)
     ∙ ap (λ s. lacksAccess (a .current) (directAccess 1 (components1Of (tokenOf (a .shape) (a .f))) s)) (source .ensures))
@@ -55,9 +66,11 @@ direct-unwritten1-spec =
     (tie.spec
     unpack-direct-requires
     returns
+    lacks-requires
+    returns-2
     mask-of-requires
     dimension-of-requires
     selectors1-requires
     named-requires
-    lacks-requires
-    returns-2)
+    lacks-requires-2
+    returns-3)

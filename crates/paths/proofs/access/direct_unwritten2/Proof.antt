@@ -3,8 +3,9 @@
 use mathlib.Core.Path.{_∙_, ap}
 use Rattle.bytecode.specs.Records.{tokenOf}
 use Rattle.paths.specs.Reads.{rowCount2}
+use Rattle.paths.specs.Written.{lacksOf}
 use Rattle.paths.specs.Access.{lacksAccess, directAccess, components2Of}
-use Rattle.paths.proofs.AccessLaws.{temporary, not-temporary}
+use Rattle.paths.proofs.AccessLaws.{temporary, not-temporary, nothing-lacks}
 use borrow.Author.Needs.{needs}
 use Rattle.paths.proofs.access.direct_unwritten2.Statement.{statement}
 use Rattle.paths.proofs.access.direct_unwritten2.Tie as tie
@@ -19,12 +20,6 @@ returns c =
     not-temporary _ (directAccess (rowCount2 (a .f .opcode)) (components2Of (tokenOf (a .shape) (a .f))) (source .result)) (c .if1 .taken)
     ∙ ap (λ s. lacksAccess (a .current) (directAccess (rowCount2 (a .f .opcode)) (components2Of (tokenOf (a .shape) (a .f))) s)) (source .ensures)
 
-mask-of-requires : tie.Need-mask-of-requires
-mask-of-requires c κs = search needs
-
-components2-requires : tie.Need-components2-requires
-components2-requires c κs = search needs
-
 rows2-requires : tie.Need-rows2-requires
 rows2-requires c κs = search needs
 
@@ -32,16 +27,34 @@ lacks-requires : tie.Need-lacks-requires
 lacks-requires c κs = search needs
 
 returns-2 : tie.Need-returns-2
-unfolding tokenOf
 returns-2 c =
-    let entry = c .before .before .before .before in
+    let entry = c .before .before .before in
+    let a = entry .before .before .before .args in
+    let source = entry .before .before .unpack-direct in
+    let asked = c .before .lacks .ensures ∙ ap (λ rows. lacksOf (a .current) (source .result .number) rows 15) (c .before .before .rows2 .ensures) in
+    nothing-lacks _ (directAccess (rowCount2 (a .f .opcode)) (components2Of (tokenOf (a .shape) (a .f))) (source .result)) asked (c .if2 .taken)
+    ∙ ap (λ s. lacksAccess (a .current) (directAccess (rowCount2 (a .f .opcode)) (components2Of (tokenOf (a .shape) (a .f))) s)) (source .ensures)
+
+mask-of-requires : tie.Need-mask-of-requires
+mask-of-requires c κs = search needs
+
+components2-requires : tie.Need-components2-requires
+components2-requires c κs = search needs
+
+lacks-requires-2 : tie.Need-lacks-requires-2
+lacks-requires-2 c κs = search needs
+
+returns-3 : tie.Need-returns-3
+unfolding tokenOf
+returns-3 c =
+    let entry = c .before .before .before .before .before .before in
     let a = entry .before .before .before .args in
     let source = entry .before .before .unpack-direct in
     simp (
-      c .before .before .before .mask-of .ensures,
-      c .before .before .components2 .ensures,
-      c .before .rows2 .ensures,
-      c .lacks .ensures,
+      c .before .before .before .before .before .rows2 .ensures,
+      c .before .before .mask-of .ensures,
+      c .before .components2 .ensures,
+      c .lacks2 .ensures,
     )
     (temporary _ (directAccess (rowCount2 (a .f .opcode)) (components2Of (tokenOf (a .shape) (a .f))) (source .result)) (entry .if1 .left)
     ∙ ap (λ s. lacksAccess (a .current) (directAccess (rowCount2 (a .f .opcode)) (components2Of (tokenOf (a .shape) (a .f))) s)) (source .ensures))
@@ -52,8 +65,10 @@ direct-unwritten2-spec =
     (tie.spec
     unpack-direct-requires
     returns
-    mask-of-requires
-    components2-requires
     rows2-requires
     lacks-requires
-    returns-2)
+    returns-2
+    mask-of-requires
+    components2-requires
+    lacks-requires-2
+    returns-3)
