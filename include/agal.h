@@ -31,7 +31,7 @@ extern "C" {
 #define AGAL_FLAT_SIZE 29       /* of a token's flat form, below */
 #define AGAL_LINE_MAX 128       /* room for any listing line */
 #define AGAL_INPUT_MAX 49160    /* the longest input that agal_report lists */
-#define AGAL_REPORT_MAX 262170  /* room for any text of agal_report */
+#define AGAL_REPORT_MAX 262178  /* room for any text of agal_report */
 
 /* Stack that a thread needs to have left, in bytes. Measured: 4,576 for agal_check, 267,072 for agal_report, under 1,000 for the others. */
 #define AGAL_CHECK_STACK 8192

@@ -3,39 +3,46 @@
 use Prim.Native.Nat.{ℕ, _+_, _<_, _≤_}
 use mathlib.Core.Bool.{Bool, true, false, cond, _&&_, false≢true}
 use mathlib.Core.List.{List, _++_}
-use mathlib.Core.Path.{_≡_, refl}
+use mathlib.Core.Path.{_≡_, refl, sym}
 use native.Mathlib.Omega.{arith}
-use lib.Dec.{ltb}
+use lib.Dec.{ltb, lit<}
 use lib.ListN.{length, drop}
 use borrow.Author.Tests.{lt-ltb, le-ltb, lt-leb, ltb-false}
 use Rattle.bytecode.specs.Decode.{refusal}
 use Rattle.bytecode.specs.Encode.{Encodes}
 use Rattle.bytecode.specs.declared.record.Token.{Token}
 use Rattle.bytecode.specs.declared.answers.Decoded.{Decoded}
-use Rattle.bytecode.specs.declared.answers.Decoded.the-variants.{Token as Read}
+use Rattle.bytecode.specs.declared.answers.Decoded.the-variants.{Token as Read, Refused as NotRead}
 use Rattle.bytecode.specs.declared.answers.Encoded.{Encoded}
 use Rattle.listing.specs.Line.{isNameable, Lists}
-use Rattle.listing.specs.declared.answers.Line.{Line}
-use Rattle.listing.specs.declared.answers.Line.the-variants.{Refused as NotListed}
+use Rattle.listing.specs.declared.answers.Printed.{Printed}
+use Rattle.listing.specs.declared.answers.Printed.the-variants.{Refused as NotPrinted}
 use Rattle.listing.proofs.LineLaws.{not-nameable}
+use Rattle.reader.specs.Reading.{readOf}
+use Rattle.reader.proofs.ReadingLaws.{token-left}
 use Rattle.agal_c.specs.Answers.{answered, refused}
 use Rattle.agal_c.specs.Flat.{flatOf, isFlat, tokenOfFlat}
-use Rattle.agal_c.specs.Calls.{decodeAnswer, readAnswer, delivered, encodedAnswer, encodeAnswer, afterFlatEncode, listedAnswer, lineAnswerOf, afterFlatLine}
+use Rattle.agal_c.specs.Calls.{HasNextPlace, deliveryAnswer, delivered, encodedAnswer, encodeAnswer, afterFlatEncode, printedAnswer, lineAnswerOf, afterFlatLine}
 
 -- ---- a record that was read, into a lent buffer
 
 module _ (t : Token) (d : Decoded) (buffer : List ℕ) (e : d ≡ Read t) where
-  pub decoded-no-room : length buffer < 29 → (refused (refusal 23 0 0) 0 ≡ decodeAnswer d buffer) × (buffer ≡ delivered d buffer)
-  decoded-no-room h = let l = lt-ltb (length buffer) 29 h in rw e (simp l, simp l)
+  pub no-room : (place step : ℕ) → length buffer < 29
+      → (refused (refusal 23 place 0) place ≡ deliveryAnswer place step d buffer) × (buffer ≡ delivered d buffer)
+  no-room place step h = let l = lt-ltb (length buffer) 29 h in rw e (simp l, simp l)
 
-  pub decoded-room : 29 ≤ length buffer → (answered 0 29 ≡ decodeAnswer d buffer) × (flatOf t ++ drop 29 buffer ≡ delivered d buffer)
-  decoded-room h = let l = le-ltb (length buffer) 29 h in rw e (simp l, simp l)
+  pub room : (place step : ℕ) → 29 ≤ length buffer
+      → (answered 0 (place + step) ≡ deliveryAnswer place step d buffer) × (flatOf t ++ drop 29 buffer ≡ delivered d buffer)
+  room place step h = let l = le-ltb (length buffer) 29 h in rw e (simp l, simp l)
 
-  pub read-no-room : (n : ℕ) → length buffer < 29 → (refused (refusal 23 n 0) n ≡ readAnswer n d buffer) × (buffer ≡ delivered d buffer)
-  read-no-room n h = let l = lt-ltb (length buffer) 29 h in rw e (simp l, simp l)
+-- the place after a token is a number of 64 bits: decode counts from 0, and a reader within its program
+pub decode-goes-on : (d : Decoded) → HasNextPlace 0 29 d
+decode-goes-on (Read t) = lit< tt
+decode-goes-on (NotRead r) = tt
 
-  pub read-room : (n : ℕ) → 29 ≤ length buffer → (answered 0 (n + 1) ≡ readAnswer n d buffer) × (flatOf t ++ drop 29 buffer ≡ delivered d buffer)
-  read-room n h = let l = le-ltb (length buffer) 29 h in rw e (simp l, simp l)
+pub read-goes-on : (bytes : List ℕ) (place : ℕ) → length bytes < 0x10000000000000000 → (d : Decoded) → d ≡ readOf bytes place → HasNextPlace place 1 d
+read-goes-on bytes place h (Read t) e = let l = token-left bytes place t (sym e) in omega (arith, h, l)
+read-goes-on bytes place h (NotRead r) e = tt
 
 -- ---- a flat form
 
@@ -62,21 +69,21 @@ module _ (flat buffer : List ℕ) where
     not-listed stage depth = (simp e, simp e)
 
   module _ (e : isFlat flat ≡ true) where
-    pub encoded : (t : Token) → t ≡ tokenOfFlat flat → (after : List ℕ) (r s : Encoded) → r ≡ s → Encodes t buffer after r
-        → (encodedAnswer s ≡ encodeAnswer flat buffer) × (after ≡ afterFlatEncode flat buffer)
+    pub encoded : (t : Token) → t ≡ tokenOfFlat flat → (after : List ℕ) (r : Encoded) → Encodes t buffer after r
+        → (encodedAnswer r ≡ encodeAnswer flat buffer) × (after ≡ afterFlatEncode flat buffer)
     unfolding encodeAnswer afterFlatEncode
-    encoded t g after r s h p = (simp (e, ← g, ← p .answer, h), simp (e, ← g, p .buffer))
+    encoded t g after r p = (simp (e, ← g, ← p .answer), simp (e, ← g, p .buffer))
 
-    pub listed : (stage depth : ℕ) (t : Token) → t ≡ tokenOfFlat flat → (after : List ℕ) (r s : Line) → r ≡ s → Lists t stage depth buffer after r
-        → (listedAnswer s ≡ lineAnswerOf flat stage depth buffer) × (after ≡ afterFlatLine flat stage depth buffer)
+    pub listed : (stage depth : ℕ) (t : Token) → t ≡ tokenOfFlat flat → (after : List ℕ) (r : Printed) → Lists t stage depth buffer after r
+        → (printedAnswer r ≡ lineAnswerOf flat stage depth buffer) × (after ≡ afterFlatLine flat stage depth buffer)
     unfolding lineAnswerOf afterFlatLine
-    listed stage depth t g after r s h p = (simp (e, ← g, ← p .answer, h), simp (e, ← g, p .buffer))
+    listed stage depth t g after r p = (simp (e, ← g, ← p .answer), simp (e, ← g, p .buffer))
 
     -- a number above 255 is no stage and no depth
     no-name : (stage depth : ℕ) → isNameable (tokenOfFlat flat) stage depth ≡ false
         → (refused (refusal 25 0 0) 0 ≡ lineAnswerOf flat stage depth buffer) × (buffer ≡ afterFlatLine flat stage depth buffer)
     no-name stage depth h =
-        listed stage depth (tokenOfFlat flat) refl buffer (NotListed (refusal 25 0 0)) (NotListed (refusal 25 0 0)) refl (not-nameable (tokenOfFlat flat) stage depth buffer h)
+        listed stage depth (tokenOfFlat flat) refl buffer (NotPrinted (refusal 25 0 0)) (not-nameable (tokenOfFlat flat) stage depth buffer h)
 
     pub no-stage : (stage depth : ℕ) → 255 < stage
         → (refused (refusal 25 0 0) 0 ≡ lineAnswerOf flat stage depth buffer) × (buffer ≡ afterFlatLine flat stage depth buffer)

@@ -1,5 +1,5 @@
 -- What each exported function answers, by what the libraries' functions answer, and what a lent buffer holds afterwards.
-use Prim.Native.Nat.{ℕ, _+_}
+use Prim.Native.Nat.{ℕ, _+_, _<_}
 use mathlib.Core.Bool.{cond}
 use mathlib.Core.List.{List, _++_}
 use lib.Dec.{ltb}
@@ -11,10 +11,8 @@ use Rattle.bytecode.specs.declared.answers.Decoded.the-variants.{Token as Read,
 use Rattle.bytecode.specs.declared.answers.Encoded.{Encoded}
 use Rattle.bytecode.specs.declared.answers.Encoded.the-variants.{Written, Refused as NotWritten}
 use Rattle.listing.specs.Line.{lineAnswer, afterLine}
-use Rattle.listing.specs.declared.answers.Line.{Line}
-use Rattle.listing.specs.declared.answers.Line.the-variants.{Length as LineLength, Refused as NotListed}
-use Rattle.report.specs.declared.answers.Report.{Report}
-use Rattle.report.specs.declared.answers.Report.the-variants.{Length as TextLength, Refused as NotReported}
+use Rattle.listing.specs.declared.answers.Printed.{Printed}
+use Rattle.listing.specs.declared.answers.Printed.the-variants.{Length, Refused as NotPrinted}
 use Rattle.verifier.specs.declared.answers.Checked.{Checked}
 use Rattle.verifier.specs.declared.answers.Checked.the-variants.{Accepted, Refused as NotAccepted}
 use Rattle.agal_c.specs.Answers.{answered, refused}
@@ -28,15 +26,16 @@ checkAnswer (NotAccepted r) = refused r 0
 
 -- ---- decode and the reader's step
 
--- 23 where the lent buffer has no room for a flat form, after any refusal of the token; "for the reader the token it stands at"
-abbrev pub decodeAnswer : Decoded → List ℕ → Answer
-decodeAnswer (Read t) buffer = cond (ltb (length buffer) 29) (refused (refusal 23 0 0) 0) (answered 0 29)
-decodeAnswer (NotRead r) buffer = refused r 0
+-- of a token read at a place: the place `step` further on; "any refusal leaves the place unmoved", and "for the reader the token it stands
+-- at" is a refusal's. 23 where the lent buffer has no room for a flat form, after any refusal of the token.
+abbrev pub deliveryAnswer : ℕ → ℕ → Decoded → List ℕ → Answer
+deliveryAnswer place step (Read t) buffer = cond (ltb (length buffer) 29) (refused (refusal 23 place 0) place) (answered 0 (place + step))
+deliveryAnswer place step (NotRead r) buffer = refused r place
 
--- "any refusal leaves the place unmoved"
-abbrev pub readAnswer : ℕ → Decoded → List ℕ → Answer
-readAnswer place (Read t) buffer = cond (ltb (length buffer) 29) (refused (refusal 23 place 0) place) (answered 0 (place + 1))
-readAnswer place (NotRead r) buffer = refused r place
+-- what the code may count on: the place after a token that was read is a number of 64 bits
+abbrev pub HasNextPlace : ℕ → ℕ → Decoded → Type 0
+HasNextPlace place step (Read t) = place + step < 0x10000000000000000
+HasNextPlace place step (NotRead r) = Unit {0}
 
 -- the flat form and then what was there, or all that was there
 abbrev pub delivered : Decoded → List ℕ → List ℕ
@@ -56,21 +55,15 @@ encodeAnswer flat buffer = cond (isFlat flat) (encodedAnswer (encodeOf (tokenOfF
 unfoldable pub afterFlatEncode : List ℕ → List ℕ → List ℕ
 afterFlatEncode flat buffer = cond (isFlat flat) (afterEncode (tokenOfFlat flat) buffer) buffer
 
--- ---- line
+-- ---- line and report
 
-abbrev pub listedAnswer : Line → Answer
-listedAnswer (LineLength n) = answered 0 n
-listedAnswer (NotListed r) = refused r 0
+abbrev pub printedAnswer : Printed → Answer
+printedAnswer (Length n) = answered 0 n
+printedAnswer (NotPrinted r) = refused r 0
 
 unfoldable pub lineAnswerOf : List ℕ → ℕ → ℕ → List ℕ → Answer
 lineAnswerOf flat stage depth buffer =
-    cond (isFlat flat) (listedAnswer (lineAnswer (tokenOfFlat flat) stage depth buffer)) (refused (refusal 25 0 0) 0)
+    cond (isFlat flat) (printedAnswer (lineAnswer (tokenOfFlat flat) stage depth buffer)) (refused (refusal 25 0 0) 0)
 
 unfoldable pub afterFlatLine : List ℕ → ℕ → ℕ → List ℕ → List ℕ
 afterFlatLine flat stage depth buffer = cond (isFlat flat) (afterLine (tokenOfFlat flat) stage depth buffer) buffer
-
--- ---- report
-
-abbrev pub reportAnswerOf : Report → Answer
-reportAnswerOf (TextLength n) = answered 0 n
-reportAnswerOf (NotReported r) = refused r 0

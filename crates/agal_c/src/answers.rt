@@ -1,7 +1,10 @@
 // What the exported functions answer, as C reads it: `include/agal.h` has the same struct.
 ghost use mathlib.Core.Path.{_≡_};
 ghost use Rattle.agal_c.specs.Answers.{answered as answeredOf, refused as refusedOf};
+ghost use Rattle.agal_c.specs.Calls.{encodedAnswer, printedAnswer};
+use bytecode::answers::Encoded;
 use bytecode::answers::Refusal;
+use listing::answers::Printed;
 
 // `number` is 0 where nothing is refused. `token` and `part` are the place of a refusal, `stage` is what check found, and `value` what else
 // is answered: the token count of check, the length of what was written, or the reader's place.
@@ -48,5 +51,25 @@ pub(crate) fn refused_by(number: u8, token: usize, value: usize) -> Answer
         stage: 0,
         token,
         value,
+    }
+}
+
+// What encode answered: 24 bytes are written.
+pub(crate) fn encoded(encoded: Encoded) -> Answer
+    ensures { λ r. ⌜ r ≡ encodedAnswer encoded ⌝ }
+{
+    match encoded {
+        Encoded::Written => answered(0, 24),
+        Encoded::Refused(r) => refused(r, 0),
+    }
+}
+
+// What is answered of a text.
+pub(crate) fn printed(printed: Printed) -> Answer
+    ensures { λ r. ⌜ r ≡ printedAnswer printed ⌝ }
+{
+    match printed {
+        Printed::Length(n) => answered(0, n),
+        Printed::Refused(r) => refused(r, 0),
     }
 }

@@ -4,13 +4,36 @@ ghost use Prim.Native.Nat.{_+_, _*_, _≤_};
 ghost use mathlib.Core.Path.{_≡_};
 ghost use mathlib.Core.List.{_++_};
 ghost use lib.ListN.{length, drop};
+ghost use Rattle.agal_c.specs.Calls.{HasNextPlace, deliveryAnswer, delivered};
 ghost use Rattle.agal_c.specs.Flat.{flatBytes, flatOf, isFlat, valuesAt, tokenOfFlat};
+use crate::answers;
+use crate::answers::Answer;
 use crate::values;
 use crate::values::Values;
+use bytecode::answers::Decoded;
 use bytecode::record::Token;
 
+// Writes the flat form of a record that was read at a place, `step` before the next one, or answers the refusal; 23 where the lent buffer
+// has no room for a flat form.
+pub(crate) fn deliver(decoded: Decoded, place: usize, step: usize, flat: &mut [u8]) -> Answer
+    requires { ⌜ HasNextPlace place step decoded ⌝ }
+    ensures { λ r. ⌜ r ≡ deliveryAnswer place step decoded (now (flat .entry)) ⌝ }
+    ensures { λ _. ⌜ now (flat .exit) ≡ delivered decoded (now (flat .entry)) ⌝ }
+{
+    match decoded {
+        Decoded::Token(t) => {
+            if flat.len() < 29 {
+                return answers::refused_by(23, place, place);
+            }
+            put_token(t, flat);
+            answers::answered(0, place + step)
+        }
+        Decoded::Refused(r) => answers::refused(r, place),
+    }
+}
+
 // Writes the flat form to the first 29 bytes.
-pub(crate) fn put_token(token: Token, out: &mut [u8])
+fn put_token(token: Token, out: &mut [u8])
     requires { ⌜ 29 ≤ length (now out) ⌝ }
     ensures { λ _. ⌜ now (out .exit) ≡ flatOf token ++ drop 29 (now (out .entry)) ⌝ }
 {

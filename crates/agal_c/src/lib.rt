@@ -9,14 +9,11 @@ ghost use Rattle.bytecode.specs.Bias.{IsBias};
 ghost use Rattle.bytecode.specs.Decode.{decodeOf};
 ghost use Rattle.reader.specs.Reading.{readOf};
 ghost use Rattle.verifier.specs.Verdict.{verdict};
-ghost use Rattle.report.specs.Report.{reportAnswer, afterReport};
-ghost use Rattle.agal_c.specs.Calls.{checkAnswer, decodeAnswer, readAnswer, delivered, encodeAnswer, afterFlatEncode, lineAnswerOf, afterFlatLine, reportAnswerOf};
+ghost use Rattle.listing.specs.Printing.{printAnswer, afterPrint};
+ghost use Rattle.report.specs.Text.{textOf};
+ghost use Rattle.agal_c.specs.Calls.{checkAnswer, deliveryAnswer, delivered, encodeAnswer, afterFlatEncode, printedAnswer, lineAnswerOf, afterFlatLine};
 use crate::answers::Answer;
-use bytecode::answers::Decoded;
-use bytecode::answers::Encoded;
 use bytecode::record::Sampler;
-use listing::answers::Line;
-use report::answers::Report;
 use verifier::answers::Checked;
 
 // Judges a program under an edition: its stage and token count, or the first fault.
@@ -33,37 +30,19 @@ pub extern "C" fn agal_check(edition: u32, program: &[u8]) -> Answer
 // Decodes a token into its flat form, of 29 bytes. A fault of the token comes before 23.
 #[no_mangle]
 pub extern "C" fn agal_decode(token: &[u8], flat: &mut [u8]) -> Answer
-    ensures { λ r. ⌜ r ≡ decodeAnswer (decodeOf (now (token .entry))) (now (flat .entry)) ⌝ }
+    ensures { λ r. ⌜ r ≡ deliveryAnswer 0 29 (decodeOf (now (token .entry))) (now (flat .entry)) ⌝ }
     ensures { λ _. ⌜ now (flat .exit) ≡ delivered (decodeOf (now (token .entry))) (now (flat .entry)) ⌝ }
 {
-    match bytecode::decode(token) {
-        Decoded::Token(t) => {
-            if flat.len() < 29 {
-                return answers::refused_by(23, 0, 0);
-            }
-            flat::put_token(t, flat);
-            answers::answered(0, 29)
-        }
-        Decoded::Refused(r) => answers::refused(r, 0),
-    }
+    flat::deliver(bytecode::decode(token), 0, 29, flat)
 }
 
 // The step of a reader that has read `place` tokens: the flat form of the next, and the place after it.
 #[no_mangle]
 pub extern "C" fn agal_read(program: &[u8], place: usize, flat: &mut [u8]) -> Answer
-    ensures { λ r. ⌜ r ≡ readAnswer place (readOf (now (program .entry)) place) (now (flat .entry)) ⌝ }
+    ensures { λ r. ⌜ r ≡ deliveryAnswer place 1 (readOf (now (program .entry)) place) (now (flat .entry)) ⌝ }
     ensures { λ _. ⌜ now (flat .exit) ≡ delivered (readOf (now (program .entry)) place) (now (flat .entry)) ⌝ }
 {
-    match reader::read_at(program, place) {
-        Decoded::Token(t) => {
-            if flat.len() < 29 {
-                return answers::refused_by(23, place, place);
-            }
-            flat::put_token(t, flat);
-            answers::answered(0, place + 1)
-        }
-        Decoded::Refused(r) => answers::refused(r, place),
-    }
+    flat::deliver(reader::read_at(program, place), place, 1, flat)
 }
 
 // Encodes a flat form into 24 bytes. What is no flat form is 25, as a record that is not encodable is.
@@ -75,10 +54,7 @@ pub extern "C" fn agal_encode(flat: &[u8], out: &mut [u8]) -> Answer
     if !flat::is_flat(flat) {
         return answers::refused_by(25, 0, 0);
     }
-    match bytecode::encode(flat::token_of(flat), out) {
-        Encoded::Written => answers::answered(0, 24),
-        Encoded::Refused(r) => answers::refused(r, 0),
-    }
+    answers::encoded(bytecode::encode(flat::token_of(flat), out))
 }
 
 // The listing line of a flat form, and its length. Numbers that are no byte are no stage and no depth.
@@ -96,22 +72,16 @@ pub extern "C" fn agal_line(flat: &[u8], stage: u32, depth: u32, out: &mut [u8])
     if 255 < depth {
         return answers::refused_by(25, 0, 0);
     }
-    match listing::line(flat::token_of(flat), stage as u8, depth as u8, out) {
-        Line::Length(n) => answers::answered(0, n),
-        Line::Refused(r) => answers::refused(r, 0),
-    }
+    answers::printed(listing::line(flat::token_of(flat), stage as u8, depth as u8, out))
 }
 
 // The whole text that agallist prints for an edition digit and a program, and its length.
 #[no_mangle]
 pub extern "C" fn agal_report(input: &[u8], out: &mut [u8]) -> Answer
-    ensures { λ r. ⌜ r ≡ reportAnswerOf (reportAnswer (now (input .entry)) (now (out .entry))) ⌝ }
-    ensures { λ _. ⌜ now (out .exit) ≡ afterReport (now (input .entry)) (now (out .entry)) ⌝ }
+    ensures { λ r. ⌜ r ≡ printedAnswer (printAnswer (textOf (now (input .entry))) (now (out .entry))) ⌝ }
+    ensures { λ _. ⌜ now (out .exit) ≡ afterPrint (textOf (now (input .entry))) (now (out .entry)) ⌝ }
 {
-    match report::report(input, out) {
-        Report::Length(n) => answers::answered(0, n),
-        Report::Refused(r) => answers::refused(r, 0),
-    }
+    answers::printed(report::report(input, out))
 }
 
 // The bias of a sampler whose record has this signed byte, as a float. Nothing else of the sampler counts.

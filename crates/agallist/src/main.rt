@@ -1,16 +1,16 @@
 // Reads an edition digit and a program's bytes from standard input, and prints the listing or the refusal.
 use libc::STDOUT_FILENO;
-use report::answers::Report;
+use listing::answers::Printed;
 
 fn main() {
     // One byte more than the limit, so that a longer input is known as such.
     let mut input = [0u8; 49161];
     let n = io::read_full(0, &mut input);
     // The longest text that there is fits.
-    let mut text = [0u8; 262170];
+    let mut text = [0u8; 262178];
     match report::report(&input[..n], &mut text) {
-        Report::Length(length) => write(&text, length),
-        Report::Refused(_) => {}
+        Printed::Length(length) => write(&text, length),
+        Printed::Refused(_) => {}
     }
 }
 

@@ -2,7 +2,7 @@
 use crate::flat;
 use crate::print;
 use bytecode::record::Token;
-use listing::answers::Line;
+use listing::answers::Printed;
 
 // A record as the cases of encode have it, its first byte the room there is, and then a stage and a depth.
 pub fn listed(bytes: &[u8]) {
@@ -23,12 +23,12 @@ fn listed_in(room: u8, t: Token, stage: u8, depth: u8) {
 // Prints the whole buffer, so that what line must leave alone shows. A line that fills it has its own end.
 fn listed_into(t: Token, stage: u8, depth: u8, out: &mut [u8]) {
     match listing::line(t, stage, depth, out) {
-        Line::Refused(r) => {
+        Printed::Refused(r) => {
             print::refusal(r);
             print::text(out);
             print::end_line();
         }
-        Line::Length(n) => {
+        Printed::Length(n) => {
             print::text(b"length");
             print::number(n as u64);
             print::end_line();

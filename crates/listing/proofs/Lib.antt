@@ -4,4 +4,5 @@ pub mod LineLaws
 pub mod NameLaws
 pub mod Notation
 pub mod OperandLaws
+pub mod PrintLaws
 pub mod Writing

@@ -3,13 +3,13 @@ use Prim.Native.Nat.{ℕ, _≤_}
 use mathlib.Core.Bool.{Bool, true, cond, _&&_}
 use mathlib.Core.List.{List, _++_}
 use mathlib.Core.Path.{_≡_}
-use lib.Dec.{ltb, leb, eqb}
-use lib.ListN.{length, drop}
+use lib.Dec.{leb, eqb}
+use lib.ListN.{length}
 use Rattle.listing.specs.Text.{ascii}
 use Rattle.listing.specs.Names.{opcodeName}
 use Rattle.listing.specs.Items.{indentation, destinationText, operandText}
 use Rattle.bytecode.specs.Encode.{isEncodable}
-use Rattle.bytecode.specs.Decode.{refusal, noRefusal}
+use Rattle.bytecode.specs.Decode.{refusal}
 use Rattle.bytecode.specs.declared.record.Destination.{Destination}
 use Rattle.bytecode.specs.declared.record.Destination.the-variants.{Unused as NoDestination, Masked}
 use Rattle.bytecode.specs.declared.record.Sampler.{Sampler}
@@ -17,8 +17,9 @@ use Rattle.bytecode.specs.declared.record.Operand.{Operand}
 use Rattle.bytecode.specs.declared.record.Operand.the-variants.{Unused as NoOperand, Direct, Indexed, Sampler as Sampled}
 use Rattle.bytecode.specs.declared.record.Token.{Token}
 use Rattle.bytecode.specs.declared.answers.Refusal.{Refusal}
-use Rattle.listing.specs.declared.answers.Line.{Line}
-use Rattle.listing.specs.declared.answers.Line.the-variants.{Length, Refused}
+use Rattle.listing.specs.Printing.{printedNumbers, printFault, printAnswer, afterPrint}
+use Rattle.listing.specs.declared.answers.Printed.{Printed}
+use Rattle.listing.specs.declared.answers.Printed.the-variants.{Refused}
 
 -- "Opcode, then used operands, one space before each, LF"
 unfoldable pub lineOf : Token → ℕ → ℕ → List ℕ
@@ -60,34 +61,21 @@ isNameable t stage depth =
 
 -- ---- line
 
--- the paper's numbers of what line answers
-abbrev pub lineNumbers : Line → Refusal
-lineNumbers (Length n) = noRefusal
-lineNumbers (Refused r) = r
-
 -- 25 where the record has no line, then 23 where the lent buffer is shorter than the line
 unfoldable pub lineFault : Token → ℕ → ℕ → List ℕ → Refusal
-lineFault t stage depth buffer =
-    cond (isNameable t stage depth)
-    (cond (ltb (length buffer) (length (lineOf t stage depth))) (refusal 23 0 0) noRefusal)
-    (refusal 25 0 0)
+lineFault t stage depth buffer = cond (isNameable t stage depth) (printFault (lineOf t stage depth) buffer) (refusal 25 0 0)
 
-unfoldable pub lineAnswer : Token → ℕ → ℕ → List ℕ → Line
+unfoldable pub lineAnswer : Token → ℕ → ℕ → List ℕ → Printed
 lineAnswer t stage depth buffer =
-    cond (eqb (lineFault t stage depth buffer .number) 0)
-    (Length (length (lineOf t stage depth)))
-    (Refused (lineFault t stage depth buffer))
+    cond (isNameable t stage depth) (printAnswer (lineOf t stage depth) buffer) (Refused (refusal 25 0 0))
 
 -- what the lent buffer holds afterwards: the line and then what was there, or all that was there
 unfoldable pub afterLine : Token → ℕ → ℕ → List ℕ → List ℕ
-afterLine t stage depth buffer =
-    cond (eqb (lineFault t stage depth buffer .number) 0)
-    (lineOf t stage depth ++ drop (length (lineOf t stage depth)) buffer)
-    buffer
+afterLine t stage depth buffer = cond (isNameable t stage depth) (afterPrint (lineOf t stage depth) buffer) buffer
 
 -- the promise of line: its answer, the answer's numbers and the buffer afterwards; and 128 bytes are room enough for every line
-pub record Lists (t : Token) (stage depth : ℕ) (before after : List ℕ) (r : Line) : Type 0 where
+pub record Lists (t : Token) (stage depth : ℕ) (before after : List ℕ) (r : Printed) : Type 0 where
   pub answer : r ≡ lineAnswer t stage depth before
-  pub numbers : lineNumbers r ≡ lineFault t stage depth before
+  pub numbers : printedNumbers r ≡ lineFault t stage depth before
   pub buffer : after ≡ afterLine t stage depth before
   pub short : isNameable t stage depth ≡ true → length (lineOf t stage depth) ≤ 128

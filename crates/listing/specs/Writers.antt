@@ -4,7 +4,7 @@ use mathlib.Core.Bool.{true, cond, _&&_}
 use mathlib.Core.List.{List, [], _∷_, _++_}
 use mathlib.Core.Path.{_≡_}
 use lib.Dec.{eqb, leb}
-use lib.ListN.{take}
+use lib.ListN.{take, drop}
 use Rattle.bytecode.specs.Opcodes.{isListed}
 use Rattle.bytecode.specs.declared.record.Operand.{Operand}
 use Rattle.bytecode.specs.declared.record.Operand.the-variants.{Unused as NoOperand, Direct, Indexed, Sampler as Sampled}
@@ -13,11 +13,13 @@ use Rattle.listing.specs.Text.{when}
 use Rattle.listing.specs.Decimal.{digit}
 use Rattle.listing.specs.Line.{destinationHasNames, operandHasNames}
 
--- A line grows at the end of what a buffer holds: the text so far is what stands before a place. Each writer puts its item there; r, the
--- place after the item, is at most `most` further. What stands after r is nobody's concern until the line is whole.
+-- A text grows at the end of what a buffer holds: the text so far is what stands before a place. Each writer puts its item there; r, the
+-- place after the item, is at most `most` further, and what stands from r on stays.
 pub record Appends (item : List ℕ) (most at : ℕ) (before after : List ℕ) (r : ℕ) : Type 0 where
   pub text : take r after ≡ take at before ++ item
+  pub onward : at ≤ r
   pub room : r ≤ at + most
+  pub rest : drop r after ≡ drop r before
 
 -- the digit that counts a unit, a power of ten; none where the number is smaller
 abbrev pub digitAt : ℕ → ℕ → List ℕ

@@ -1,33 +1,32 @@
 // Line: the listing line of a record into a lent buffer, or the first fault with every byte as it was.
-ghost use mathlib.Core.Path.{_≡_};
 ghost use Prim.Native.Nat.{_≤_};
 ghost use lib.ListN.{length};
-ghost use Rattle.bytecode.specs.Decode.{refusal};
 ghost use Rattle.listing.specs.Line.{lineOf, Lists};
 ghost use Rattle.listing.specs.Writers.{Appends, Nameable};
-use crate::answers::Line;
+use crate::answers::Printed;
 use crate::items;
 use crate::nameable;
 use crate::names;
 use crate::operands;
+use crate::printing;
 use crate::text;
-use bytecode::answers::Refusal;
 use bytecode::record::Token;
 
 // A stage is 0, vertex, or 1, fragment; a depth is 0 to 16.
-pub fn line(token: Token, stage: u8, depth: u8, out: &mut [u8]) -> Line
+pub fn line(token: Token, stage: u8, depth: u8, out: &mut [u8]) -> Printed
     ensures { λ r. ⌜ Lists token stage depth (now (out .entry)) (now (out .exit)) r ⌝ }
 {
     if !nameable::nameable(token, stage, depth) {
-        return Line::Refused(refused(25));
+        return Printed::Refused(printing::refused(25));
     }
-    // No line is longer. Its length is known once it is written, so it is written here first.
+    // No line is longer.
+    if 128 <= out.len() {
+        return Printed::Length(put_line(out, token, stage, depth));
+    }
+    // Its length is known once it is written, so where the buffer may be too short it is written here first.
     let mut whole = [0u8; 128];
     let n = put_line(&mut whole, token, stage, depth);
-    if out.len() < n {
-        return Line::Refused(refused(23));
-    }
-    Line::Length(text::put_bytes(out, 0, &whole[..n]))
+    printing::print(&whole[..n], out)
 }
 
 fn put_line(out: &mut [u8], token: Token, stage: u8, depth: u8) -> usize
@@ -44,14 +43,4 @@ fn put_line(out: &mut [u8], token: Token, stage: u8, depth: u8) -> usize
     let p4 = operands::put_operand(out, p3, stage, source1);
     let p5 = operands::put_operand(out, p4, stage, source2);
     text::put_byte(out, p5, b'\n')
-}
-
-fn refused(number: u8) -> Refusal
-    ensures { λ r. ⌜ r ≡ refusal number 0 0 ⌝ }
-{
-    Refusal {
-        number,
-        token: 0,
-        part: 0,
-    }
 }

@@ -1,9 +1,8 @@
-// Writing to a buffer: each function appends an item at `at`, and answers the place after it. What stands before `at` stays.
+// Writing to a buffer: each function appends an item at `at`, and answers the place after it. What stands before and after the item stays.
 ghost use mathlib.Core.Bool.{cond};
-ghost use mathlib.Core.Path.{_≡_};
 ghost use mathlib.Core.List.{[], _∷_};
 ghost use Prim.Native.Nat.{_+_, _≤_, max};
-ghost use lib.ListN.{length, drop};
+ghost use lib.ListN.{length};
 ghost use Rattle.listing.specs.Text.{when};
 ghost use Rattle.listing.specs.Writers.{Appends};
 
@@ -23,10 +22,10 @@ pub(crate) fn put_when(out: &mut [u8], at: usize, wanted: bool, byte: u8) -> usi
     if wanted { put_byte(out, at, byte) } else { at }
 }
 
-// All of some bytes. What stands after them stays, too.
+// All of some bytes.
 pub(crate) fn put_bytes(out: &mut [u8], at: usize, bytes: &[u8]) -> usize
     requires { ⌜ at + length (now bytes) ≤ length (now out) ⌝ }
-    ensures { λ r. ⌜ Appends (now (bytes .entry)) (length (now (bytes .entry))) at (now (out .entry)) (now (out .exit)) r × (drop r (now (out .exit)) ≡ drop r (now (out .entry))) ⌝ }
+    ensures { λ r. ⌜ Appends (now (bytes .entry)) (length (now (bytes .entry))) at (now (out .entry)) (now (out .exit)) r ⌝ }
 {
     let mut i = 0;
     while i < bytes.len() {

@@ -1,6 +1,7 @@
 pub mod Accepted
 pub mod Examples
-pub mod Listed
+pub mod Lined
 pub mod Place
+pub mod TokensRead
 pub mod Turn
 pub mod Whole

@@ -6,24 +6,25 @@ use mathlib.Core.List.{List}
 use mathlib.Core.Path.{_≡_, _∙_, sym, ap, subst}
 use native.Mathlib.Omega.{arith}
 use lib.Dec.{leb, lit≤}
-use lib.ListN.{length, take, drop, getD, take-append-drop, length-drop}
-use lib.Seq.{length-take-le, take-length}
+use lib.ListN.{length, take, drop, getD, length-drop}
+use lib.Seq.{take-length}
 use borrow.Author.Tests.{lt-ltb, le-ltb, eq-eqb, ne-eqb, leb-true}
 use Rattle.bytecode.specs.Decode.{refusal}
 use Rattle.bytecode.specs.declared.answers.Refusal.{Refusal}
 use Rattle.laws.proofs.Every.{left, right}
-use Rattle.listing.specs.Text.{ascii}
+use Rattle.listing.specs.First.{headingLine, faultLine, firstLine}
+use Rattle.listing.specs.Printing.{Prints}
+use Rattle.listing.specs.declared.answers.Printed.{Printed}
+use Rattle.listing.specs.declared.first.First.the-variants.{NoEdition, InputTooLong}
 use Rattle.listing.specs.Writers.{Appends}
 use Rattle.listing.proofs.Writing.{_then_, within}
 use Rattle.verifier.specs.Rules.{tokenCount}
 use Rattle.verifier.specs.Verdict.{verdict}
 use Rattle.verifier.specs.declared.answers.Program.{Program}
 use Rattle.verifier.specs.declared.answers.Checked.the-variants.{Accepted, Refused}
-use Rattle.report.specs.Lines.{refusalLine, firstLine, linesFrom}
-use Rattle.report.specs.Text.{answerText, isEdition, editionOf, textOf}
-use Rattle.report.specs.Report.{reportAnswer, afterReport, Reports}
-use Rattle.report.specs.Lines.{Listable}
-use Rattle.report.specs.declared.answers.Report.the-variants.{Length, Refused as NotReported}
+use Rattle.report.specs.Lines.{linesFrom, Listable}
+use Rattle.report.specs.Text.{answerText, faultOf, isEdition, editionOf, textOf}
+use Rattle.report.specs.Report.{Reports}
 use Rattle.report.proofs.Accepted.{lists}
 
 -- ---- what the check answers
@@ -44,17 +45,17 @@ module _ (edition : ℕ) (bytes : List ℕ) (few : length bytes ≤ 49159) where
     pub has-lines : Listable (p .stage) bytes 0 (tokenCount bytes) 0
     has-lines = subst (λ k. Listable (p .stage) bytes 0 k 0) tokens-are (program-listable edition bytes p e)
 
-    pub accepted-text : {at q r : ℕ} {l m n : List ℕ} → Appends (firstLine edition (p .stage) (p .tokens)) 26 at l m q
+    pub accepted-text : {at q r : ℕ} {l m n : List ℕ} → Appends (headingLine (record { edition = edition; stage = p .stage; tokens = p .tokens })) 34 at l m q
         → Appends (linesFrom (p .stage) bytes 0 (tokenCount bytes) 0) (128 * tokenCount bytes) q m n r
-        → Appends (answerText edition bytes (verdict edition bytes)) 262170 at l n r
+        → Appends (answerText edition bytes (verdict edition bytes)) 262178 at l n r
     accepted-text {at} {q} {r} {l} {m} {n} a b =
-        subst (λ v. Appends (answerText edition bytes v) 262170 at l n r) (sym e)
-        (within 262170 (omega arith) (a then subst (λ k. Appends (linesFrom (p .stage) bytes 0 k 0) (128 * tokenCount bytes) q m n r) (sym tokens-are) b))
+        subst (λ v. Appends (answerText edition bytes v) 262178 at l n r) (sym e)
+        (within 262178 (omega arith) (a then subst (λ k. Appends (linesFrom (p .stage) bytes 0 k 0) (128 * tokenCount bytes) q m n r) (sym tokens-are) b))
 
-  pub refused-text : (f : Refusal) → verdict edition bytes ≡ Refused f → {at r : ℕ} {l n : List ℕ} → Appends (refusalLine f) 34 at l n r
-      → Appends (answerText edition bytes (verdict edition bytes)) 262170 at l n r
+  pub refused-text : (f : Refusal) → verdict edition bytes ≡ Refused f → {at r : ℕ} {l n : List ℕ} → Appends (faultLine (faultOf f)) 34 at l n r
+      → Appends (answerText edition bytes (verdict edition bytes)) 262178 at l n r
   refused-text f e {at} {r} {l} {n} a =
-      subst (λ v. Appends (answerText edition bytes v) 262170 at l n r) (sym e) (within 262170 (lit≤ tt) a)
+      subst (λ v. Appends (answerText edition bytes v) 262178 at l n r) (sym e) (within 262178 (lit≤ tt) a)
 
 -- ---- the tests in their order
 
@@ -62,17 +63,17 @@ pub edition-range : (b : ℕ) → isEdition b ≡ true → (49 ≤ b) × (b ≤ 
 edition-range b e = (leb-true 49 b (left (leb 49 b) (leb b 51) e), leb-true b 51 (right (leb 49 b) (leb b 51) e))
 
 module _ (input : List ℕ) where
-  pub too-long : 49160 < length input → textOf input ≡ ascii "input too long\n"
+  pub too-long : 49160 < length input → textOf input ≡ firstLine InputTooLong
   unfolding textOf
   too-long h = simp (lt-ltb 49160 (length input) h)
 
   module _ (h : length input ≤ 49160) where
-    pub no-edition : length input ≡ 0 → textOf input ≡ ascii "no edition\n"
+    pub no-edition : length input ≡ 0 → textOf input ≡ firstLine NoEdition
     unfolding textOf
     no-edition e = simp (le-ltb 49160 (length input) h, eq-eqb (length input) 0 e)
 
     module _ (n : length input ≡ 0 → ⊥) where
-      pub other-byte : isEdition (getD input 0 0) ≡ false → textOf input ≡ refusalLine (refusal 1 0 0)
+      pub other-byte : isEdition (getD input 0 0) ≡ false → textOf input ≡ faultLine (faultOf (refusal 1 0 0))
       unfolding textOf
       other-byte e = rw (le-ltb 49160 (length input) h, ne-eqb (length input) 0 n, e)
 
@@ -87,37 +88,15 @@ module _ (input : List ℕ) where
 
 -- ---- report
 
-measured : (n : ℕ) (l : List ℕ) {text : List ℕ} → n ≤ length l → take n l ≡ text → n ≡ length text
-measured n l h e = sym (length-take-le n l h) ∙ ap length e
+pub reported : {input before after : List ℕ} {r : Printed} → Prints (textOf input) before after r × (length (textOf input) ≤ 262178)
+    → Reports input before after r
+reported {input} (p, s) =
+    record { prints = p; short = s; listable = program-listable (editionOf (getD input 0 0)) (drop 1 input) }
 
-module _ (input buffer : List ℕ) where
-  pub buffer-short : (n : ℕ) (l : List ℕ) → n ≤ length l → take n l ≡ textOf input → length buffer < n → Reports input buffer buffer (NotReported (refusal 23 0 0))
-  unfolding reportAnswer afterReport
-  buffer-short n l h e k =
-      let m = measured n l h e in
-      let s = lt-ltb (length buffer) (length (textOf input)) (omega (arith, m, k)) in
-      record { answer = simp s; numbers = simp s; buffer = simp s; listable = program-listable (editionOf (getD input 0 0)) (drop 1 input) }
+-- ---- lengths, apart from the array of 262,178 bytes
 
-  pub reported : {n : ℕ} {after : List ℕ} → n ≤ length after → length after ≡ length buffer →
-      take n after ≡ textOf input → drop n after ≡ drop n buffer → Reports input buffer after (Length n)
-  unfolding reportAnswer afterReport
-  reported {n} {after} h k front back =
-      let m = measured n after h front in
-      let s = le-ltb (length buffer) (length (textOf input)) (omega (arith, m, h, k)) in
-      record {
-        answer = rw m (simp s);
-        numbers = simp s;
-        buffer = simp s (sym (take-append-drop n after) ∙ rw (front, back, ← m));
-        listable = program-listable (editionOf (getD input 0 0)) (drop 1 input);
-      }
+pub room-in : (l : List ℕ) → length l ≡ 262178 → 262178 ≤ length l
+room-in l e = omega (arith, e)
 
--- ---- lengths, apart from the buffer of 262,170 bytes that report has
-
-pub inside : (n : ℕ) (l : List ℕ) → n ≤ 0 + 262170 → length l ≡ 262170 → n ≤ length l
-inside n l h e = omega arith
-
-pub from-zero : (n m : ℕ) → n ≤ m → 0 + n ≤ m
-from-zero n m h = omega arith
-
-pub landed : (r k n m a : ℕ) → r ≤ 0 + k → k ≡ n → n ≤ m → a ≡ m → r ≤ a
-landed r k n m a h e l f = omega arith
+pub inside : (n : ℕ) (l : List ℕ) → n ≤ 0 + 262178 → length l ≡ 262178 → n ≤ length l
+inside n l h e = omega (arith, h, e)

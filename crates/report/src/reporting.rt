@@ -2,44 +2,57 @@
 ghost use mathlib.Core.Path.{_≡_};
 ghost use Prim.Native.Nat.{_≤_, _<_};
 ghost use lib.ListN.{length};
-ghost use Rattle.bytecode.specs.Decode.{refusal};
+ghost use Rattle.listing.specs.First.{firstLine};
 ghost use Rattle.listing.specs.Writers.{Appends};
 ghost use Rattle.verifier.specs.Verdict.{verdict};
-ghost use Rattle.report.specs.Text.{answerText, isEdition as isEditionDigit, editionOf, textOf};
+ghost use Rattle.report.specs.Text.{answerText, faultOf, isEdition as isEditionDigit, editionOf, textOf};
 ghost use Rattle.report.specs.Report.{Reports};
-use crate::answers::Report;
-use crate::lines;
-use crate::text;
 use crate::tokens;
 use bytecode::answers::Refusal;
+use listing::answers::Printed;
+use listing::first::Fault;
+use listing::first::First;
+use listing::first::Heading;
 use verifier::answers::Checked;
 
 // From an edition digit and a program's bytes. A buffer that is too short for the whole text keeps every byte.
-pub fn report(input: &[u8], out: &mut [u8]) -> Report
+pub fn report(input: &[u8], out: &mut [u8]) -> Printed
     ensures { λ r. ⌜ Reports (now (input .entry)) (now (out .entry)) (now (out .exit)) r ⌝ }
 {
-    // No text is longer: a first line, and 2048 token lines. Its length is known once it is written, so it is written here first.
-    let mut whole = [0u8; 262170];
-    let n = put_text(&mut whole, input);
-    if out.len() < n {
-        return Report::Refused(refused(23));
+    // No text is longer: a first line, and 2048 token lines.
+    if 262178 <= out.len() {
+        return Printed::Length(put_text(out, input));
     }
-    Report::Length(text::put_bytes(out, 0, &whole[..n]))
+    report_by_copy(input, out)
+}
+
+// Its length is known once it is written, so where the buffer may be too short it is written to an array first.
+fn report_by_copy(input: &[u8], out: &mut [u8]) -> Printed
+    ensures { λ r. ⌜ Reports (now (input .entry)) (now (out .entry)) (now (out .exit)) r ⌝ }
+{
+    let mut whole = [0u8; 262178];
+    let n = put_text(&mut whole, input);
+    listing::print(&whole[..n], out)
 }
 
 fn put_text(out: &mut [u8], input: &[u8]) -> usize
-    requires { ⌜ 262170 ≤ length (now out) ⌝ }
-    ensures { λ r. ⌜ Appends (textOf (now (input .entry))) 262170 0 (now (out .entry)) (now (out .exit)) r ⌝ }
+    requires { ⌜ 262178 ≤ length (now out) ⌝ }
+    ensures { λ r. ⌜ Appends (textOf (now (input .entry))) 262178 0 (now (out .entry)) (now (out .exit)) r ⌝ }
 {
     if 49160 < input.len() {
-        return text::put_bytes(out, 0, b"input too long\n");
+        return put_first(out, First::InputTooLong);
     }
     if input.len() == 0 {
-        return text::put_bytes(out, 0, b"no edition\n");
+        return put_first(out, First::NoEdition);
     }
     let digit = input[0];
     if !is_edition(digit) {
-        return lines::put_refusal(out, refused(1));
+        let fault = Fault {
+            number: 1,
+            token: 0,
+            part: 0,
+        };
+        return put_first(out, First::Refused(fault));
     }
     let edition = edition_of(digit);
     put_answer(out, edition, &input[1..])
@@ -52,35 +65,52 @@ fn is_edition(digit: u8) -> bool
 }
 
 // The edition that a digit names.
-fn edition_of(digit: u8) -> u32
+fn edition_of(digit: u8) -> u16
     requires { ⌜ (49 ≤ digit) × (digit ≤ 51) ⌝ }
-    ensures { λ r. ⌜ (r ≡ editionOf digit) × (r ≤ 3) ⌝ }
+    ensures { λ r. ⌜ r ≡ editionOf digit ⌝ }
 {
-    (digit - b'0') as u32
+    (digit - b'0') as u16
 }
 
 // What the check answers. As many bytes hold at most 2048 tokens.
-fn put_answer(out: &mut [u8], edition: u32, bytes: &[u8]) -> usize
-    requires { ⌜ 262170 ≤ length (now out) ⌝ }
-    requires { ⌜ edition < 65536 ⌝ }
+fn put_answer(out: &mut [u8], edition: u16, bytes: &[u8]) -> usize
+    requires { ⌜ 262178 ≤ length (now out) ⌝ }
     requires { ⌜ length (now bytes) ≤ 49159 ⌝ }
-    ensures { λ r. ⌜ Appends (answerText edition (now (bytes .entry)) (verdict edition (now (bytes .entry)))) 262170 0 (now (out .entry)) (now (out .exit)) r ⌝ }
+    ensures { λ r. ⌜ Appends (answerText edition (now (bytes .entry)) (verdict edition (now (bytes .entry)))) 262178 0 (now (out .entry)) (now (out .exit)) r ⌝ }
 {
-    match verifier::check(edition, bytes) {
+    match verifier::check(edition as u32, bytes) {
         Checked::Accepted(program) => {
-            let p = lines::put_first_line(out, edition, program.stage, program.tokens);
+            let heading = Heading {
+                edition,
+                stage: program.stage,
+                tokens: program.tokens as u16,
+            };
+            let p = put_first(out, First::Accepted(heading));
             tokens::put_tokens(out, p, program.stage, bytes)
         }
-        Checked::Refused(r) => lines::put_refusal(out, r),
+        Checked::Refused(r) => put_first(out, First::Refused(fault_of(r))),
     }
 }
 
-fn refused(number: u8) -> Refusal
-    ensures { λ r. ⌜ r ≡ refusal number 0 0 ⌝ }
+// A refusal of a program whose tokens 16 bits can number.
+fn fault_of(r: Refusal) -> Fault
+    requires { ⌜ r .token < 65536 ⌝ }
+    ensures { λ f. ⌜ f ≡ faultOf r ⌝ }
 {
-    Refusal {
-        number,
-        token: 0,
-        part: 0,
+    Fault {
+        number: r.number,
+        token: r.token as u16,
+        part: r.part,
+    }
+}
+
+// The first line into a buffer that has the room for it.
+fn put_first(out: &mut [u8], first: First) -> usize
+    requires { ⌜ 34 ≤ length (now out) ⌝ }
+    ensures { λ r. ⌜ Appends (firstLine first) 34 0 (now (out .entry)) (now (out .exit)) r ⌝ }
+{
+    match listing::first_line(first, out) {
+        Printed::Length(n) => n,
+        Printed::Refused(_) => 0,
     }
 }

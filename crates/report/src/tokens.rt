@@ -12,12 +12,11 @@ ghost use Rattle.verifier.specs.Rules.{tokenCount};
 ghost use Rattle.verifier.specs.Order.{tokenAt, recordOf};
 ghost use Rattle.report.specs.Depth.{shownDepth, openedAfter};
 ghost use Rattle.report.specs.Lines.{linesFrom, Listable};
-use crate::text;
 use bytecode::answers::Decoded;
 use bytecode::record::Destination;
 use bytecode::record::Operand;
 use bytecode::record::Token;
-use listing::answers::Line;
+use listing::answers::Printed;
 
 // A line for each token, none of which has more than 128 bytes.
 pub(crate) fn put_tokens(out: &mut [u8], at: usize, stage: u8, bytes: &[u8]) -> usize
@@ -67,10 +66,9 @@ fn put_line(out: &mut [u8], at: usize, token: Token, stage: u8, depth: u8) -> us
     requires { ⌜ isNameable token stage depth ≡ true ⌝ }
     ensures { λ r. ⌜ Appends (lineOf token stage depth) 128 at (now (out .entry)) (now (out .exit)) r ⌝ }
 {
-    let mut whole = [0u8; 128];
-    match listing::line(token, stage, depth, &mut whole) {
-        Line::Length(n) => text::put_bytes(out, at, &whole[..n]),
-        Line::Refused(_) => at,
+    match listing::line(token, stage, depth, &mut out[at..]) {
+        Printed::Length(n) => at + n,
+        Printed::Refused(_) => at,
     }
 }
 

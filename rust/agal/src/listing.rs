@@ -4,7 +4,7 @@ use crate::check::Edition;
 use crate::ffi;
 
 /// Room for the text of every input.
-const REPORT_MAX: usize = 262_170;
+const REPORT_MAX: usize = 262_178;
 
 /// The text that the program `agallist` prints: the listing of a program that is accepted, or one line that says
 /// why there is none. Programs of more than 49,159 bytes are `input too long`.

@@ -16,9 +16,9 @@ refused-by-requires c κs = search needs
 
 returns : tie.Need-returns
 returns c =
-    let f = c .before .before in
-    let start = f .before .before .before in
-    let l = not-listed (now (start .args .flat)) (now (start .args .out)) (sym (f .is-flat .ensures) ∙ not-true (f .is-flat .result) (c .before .if1 .taken)) (start .args .stage) (start .args .depth) in
+    let f = c .before .before .is-flat in
+    let a = c .before .before .before .before .before .args in
+    let l = not-listed (now (a .flat)) (now (a .out)) (sym (f .ensures) ∙ not-true (f .result) (c .before .if1 .taken)) (a .stage) (a .depth) in
     (c .refused-by .ensures ∙ l .0, l .1)
 
 refused-by-requires-2 : tie.Need-refused-by-requires-2
@@ -26,9 +26,9 @@ refused-by-requires-2 c κs = search needs
 
 returns-2 : tie.Need-returns-2
 returns-2 c =
-    let f = c .before .before .before in
-    let start = f .before .before .before in
-    let l = no-stage (now (start .args .flat)) (now (start .args .out)) (sym (f .is-flat .ensures) ∙ not-false (f .is-flat .result) (c .before .before .if1 .left)) (start .args .stage) (start .args .depth) (c .before .if2 .taken) in
+    let f = c .before .before .before .is-flat in
+    let a = c .before .before .before .before .before .before .args in
+    let l = no-stage (now (a .flat)) (now (a .out)) (sym (f .ensures) ∙ not-false (f .result) (c .before .before .if1 .left)) (a .stage) (a .depth) (c .before .if2 .taken) in
     (c .refused-by2 .ensures ∙ l .0, l .1)
 
 refused-by-requires-3 : tie.Need-refused-by-requires-3
@@ -36,15 +36,15 @@ refused-by-requires-3 c κs = search needs
 
 returns-3 : tie.Need-returns-3
 returns-3 c =
-    let f = c .before .before .before .before in
-    let start = f .before .before .before in
-    let l = no-depth (now (start .args .flat)) (now (start .args .out)) (sym (f .is-flat .ensures) ∙ not-false (f .is-flat .result) (c .before .before .before .if1 .left)) (start .args .stage) (start .args .depth) (c .before .if3 .taken) in
+    let f = c .before .before .before .before .is-flat in
+    let a = c .before .before .before .before .before .before .before .args in
+    let l = no-depth (now (a .flat)) (now (a .out)) (sym (f .ensures) ∙ not-false (f .result) (c .before .before .before .if1 .left)) (a .stage) (a .depth) (c .before .if3 .taken) in
     (c .refused-by3 .ensures ∙ l .0, l .1)
 
 token-of-requires : tie.Need-token-of-requires
 token-of-requires c κs =
-    let f = c .before .before .before in
-    flat-long _ (sym (f .is-flat .ensures) ∙ not-false (f .is-flat .result) (c .before .before .if1 .left))
+    let f = c .before .before .before .is-flat in
+    flat-long _ (sym (f .ensures) ∙ not-false (f .result) (c .before .before .if1 .left))
 
 cast-line : tie.Need-cast-line
 cast-line c = search needs
@@ -55,43 +55,19 @@ cast-line-2 c = search needs
 line-requires : tie.Need-line-requires
 line-requires c κs = search needs
 
-enum-known-n : tie.Need-enum-known-n
-enum-known-n c = search needs
-
-answered-requires : tie.Need-answered-requires
-answered-requires c κs = search needs
-
-enum-known-r : tie.Need-enum-known-r
-enum-known-r c = search needs
-
-refused-requires : tie.Need-refused-requires
-refused-requires c κs = search needs
+printed-requires : tie.Need-printed-requires
+printed-requires c κs = search needs
 
 same-length : tie.Need-same-length
 same-length c = search needs
 
 returns-4 : tie.Need-returns-4
 returns-4 c =
-    let e = c .before .before .before .before .before .before in
-    let t = e .before .before in
-    let f = t .before .before .before .before in
-    let start = f .before .before .before in
-    let flat = sym (f .is-flat .ensures) ∙ not-false (f .is-flat .result) (t .before .before .before .if1 .left) in
-    let l = listed (now (start .args .flat)) (now (start .args .out)) flat (start .args .stage) (start .args .depth) _ (t .token-of .ensures) _ _ _ (c .before .before .n .given .1) (e .line .ensures) in
-    (c .answered .ensures ∙ l .0, l .1)
-
-same-length-2 : tie.Need-same-length-2
-same-length-2 c = search needs
-
-returns-5 : tie.Need-returns-5
-returns-5 c =
-    let e = c .before .before .before .before .before .before in
-    let t = e .before .before in
-    let f = t .before .before .before .before in
-    let start = f .before .before .before in
-    let flat = sym (f .is-flat .ensures) ∙ not-false (f .is-flat .result) (t .before .before .before .if1 .left) in
-    let l = listed (now (start .args .flat)) (now (start .args .out)) flat (start .args .stage) (start .args .depth) _ (t .token-of .ensures) _ _ _ (c .before .before .r .given .1) (e .line .ensures) in
-    (c .refused .ensures ∙ l .0, l .1)
+    let f = c .before .before .before .before .before .before .before .before .before .is-flat in
+    let a = c .before .before .before .before .before .before .before .before .before .before .before .before .args in
+    let flat = sym (f .ensures) ∙ not-false (f .result) (c .before .before .before .before .before .before .before .before .if1 .left) in
+    let l = listed (now (a .flat)) (now (a .out)) flat (a .stage) (a .depth) _ (c .before .before .before .before .before .token-of .ensures) _ _ (c .before .before .before .line .ensures) in
+    (c .printed .ensures ∙ l .0, l .1)
 
 pub agal-line-spec : {M : Type 1} → statement M
 agal-line-spec =
@@ -108,11 +84,6 @@ agal-line-spec =
     cast-line
     cast-line-2
     line-requires
-    enum-known-n
-    answered-requires
-    enum-known-r
-    refused-requires
+    printed-requires
     same-length
-    returns-4
-    same-length-2
-    returns-5)
+    returns-4)

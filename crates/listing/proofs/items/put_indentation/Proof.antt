@@ -32,7 +32,7 @@ returns : tie.Need-returns
 returns c =
     let width = 2 * c .before .before .before .before .before .before .args .depth in
     let narrow : width ≤ 32 = search needs in
-    rw (← take-replicate width 32 32 narrow) (within 32 (rw (length-take-le width spaces narrow) narrow) (c .before .before .put-bytes .ensures .0))
+    rw (← take-replicate width 32 32 narrow) (within 32 (rw (length-take-le width spaces narrow) narrow) (c .before .before .put-bytes .ensures))
 
 pub put-indentation-spec : {M : Type 1} → statement M
 put-indentation-spec =

@@ -37,7 +37,7 @@ returns : tie.Need-returns
 returns c =
     let start = c .before .before .before .before .before .before .before in
     let o = start .args .opcode in
-    rw (← opcode-name o (start .pre .1)) (within 3 (omega (arith, short (3 * o + 3 - 3 * o) (drop (3 * o) opcodes))) (c .before .before .put-bytes .ensures .0))
+    rw (← opcode-name o (start .pre .1)) (within 3 (omega (arith, short (3 * o + 3 - 3 * o) (drop (3 * o) opcodes))) (c .before .before .put-bytes .ensures))
 
 pub put-opcode-spec : {M : Type 1} → statement M
 put-opcode-spec =

@@ -41,7 +41,7 @@ returns c =
     let n = c .before .before .before .before .before .before in
     let start = n .before .before .before in
     rw (← register-name (start .args .stage) (start .args .kind) (start .pre .1 .0) (start .pre .1 .1), ← n .letters .ensures .0, ← n .before .row .ensures .0)
-    (within 2 (omega (arith, short (2 * n .before .row .result + n .letters .result - 2 * n .before .row .result) (drop (2 * n .before .row .result) registers))) (c .before .before .put-bytes .ensures .0))
+    (within 2 (omega (arith, short (2 * n .before .row .result + n .letters .result - 2 * n .before .row .result) (drop (2 * n .before .row .result) registers))) (c .before .before .put-bytes .ensures))
 
 pub put-register-name-spec : {M : Type 1} → statement M
 put-register-name-spec =

@@ -27,7 +27,7 @@ returns c =
     let e1 = e2 .before .before .before .before .before in
     let s = e1 .before .before .before .before .args .s in
     let plain = toZ-ofZ w8 (s .bias) (search needs) in
-    e1 .put-bytes .ensures .0 then (rw plain at (e2 .put-signed .ensures))
+    e1 .put-bytes .ensures then (rw plain at (e2 .put-signed .ensures))
 
 pub put-bias-spec : {M : Type 1} → statement M
 put-bias-spec =

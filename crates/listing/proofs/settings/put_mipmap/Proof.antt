@@ -19,7 +19,7 @@ same-length c = search needs
 returns : tie.Need-returns
 returns c =
     let e = c .before .before in
-    rw (e .before .before .before .if1 .taken) (within 10 (lit≤ tt) (e .put-bytes .ensures .0))
+    rw (e .before .before .before .if1 .taken) (within 10 (lit≤ tt) (e .put-bytes .ensures))
 
 slice-aggregate-put-either : tie.Need-slice-aggregate-put-either
 slice-aggregate-put-either c = search needs

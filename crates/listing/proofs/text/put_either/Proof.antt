@@ -18,7 +18,7 @@ same-length c = search needs
 returns : tie.Need-returns
 returns c =
     let e = c .before .before in
-    rw (e .before .before .if1 .taken) (within _ (le-max-left _ _) (e .put-bytes .ensures .0))
+    rw (e .before .before .if1 .taken) (within _ (le-max-left _ _) (e .put-bytes .ensures))
 
 same-length-2 : tie.Need-same-length-2
 same-length-2 c = search needs
@@ -26,7 +26,7 @@ same-length-2 c = search needs
 returns-2 : tie.Need-returns-2
 returns-2 c =
     let e = c .before .before in
-    rw (e .before .before .if1 .left) (within _ (le-max-right _ _) (e .put-bytes2 .ensures .0))
+    rw (e .before .before .if1 .left) (within _ (le-max-right _ _) (e .put-bytes2 .ensures))
 
 pub put-either-spec : {M : Type 1} → statement M
 put-either-spec =

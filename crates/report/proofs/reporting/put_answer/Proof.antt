@@ -16,47 +16,51 @@ check-requires c κs = search needs
 enum-known-program : tie.Need-enum-known-program
 enum-known-program c = search needs
 
-put-first-line-requires : tie.Need-put-first-line-requires
-put-first-line-requires c κs =
+cast-t11 : tie.Need-cast-t11
+cast-t11 c =
     let start = c .before .before .before .before .before .before .before in
-    let v = sym (c .before .before .before .before .check .ensures .answer) ∙ c .before .before .program .given .1 in
-    (search needs, (start .pre .1 .0, tokens-few (start .args .edition) (now (start .args .bytes)) (start .pre .1 .1) _ v))
+    search (needs, tokens-few (start .args .edition) (now (start .args .bytes)) (start .pre .1) _ (sym (c .before .before .before .before .check .ensures .answer) ∙ c .before .before .program .given .1))
+
+put-first-requires : tie.Need-put-first-requires
+put-first-requires c κs = search needs
 
 put-tokens-requires : tie.Need-put-tokens-requires
 put-tokens-requires c κs =
-    let start = c .before .before .before .before .before .before .before .before .before .before .before in
-    let v = sym (c .before .before .before .before .before .before .before .before .check .ensures .answer) ∙ c .before .before .before .before .before .before .program .given .1 in
+    let start = c .before .before .before .before .before .before .before .before .before .before .before .before in
+    let v = sym (c .before .before .before .before .before .before .before .before .before .check .ensures .answer) ∙ c .before .before .before .before .before .before .before .program .given .1 in
     let edition = start .args .edition in
     let bytes = now (start .args .bytes) in
-    let few = start .pre .1 .1 in
-    (lists edition bytes _ v .header, (omega (arith, few, c .before .before .before .put-first-line .ensures .room), has-lines edition bytes few _ v))
+    let few = start .pre .1 in
+    (lists edition bytes _ v .header, (omega (arith, few, c .before .before .before .put-first .ensures .room), has-lines edition bytes few _ v))
 
 enum-known-r : tie.Need-enum-known-r
 enum-known-r c = search needs
 
-put-refusal-requires : tie.Need-put-refusal-requires
-put-refusal-requires c κs =
+fault-of-requires : tie.Need-fault-of-requires
+fault-of-requires c κs =
     let start = c .before .before .before .before .before .before .before in
-    let v = sym (c .before .before .before .before .check .ensures .answer) ∙ c .before .before .r .given .1 in
-    (search needs, refused-token (start .args .edition) (now (start .args .bytes)) (start .pre .1 .1) _ v)
+    refused-token (start .args .edition) (now (start .args .bytes)) (start .pre .1) _ (sym (c .before .before .before .before .check .ensures .answer) ∙ c .before .before .r .given .1)
+
+put-first-requires-2 : tie.Need-put-first-requires-2
+put-first-requires-2 c κs = search needs
 
 same-length : tie.Need-same-length
 same-length c = search needs
 
 returns : tie.Need-returns
 returns c =
-    let start = c .before .before .before .before .before .before .before .before .before .before .before .before .before .before in
-    let v = sym (c .before .before .before .before .before .before .before .before .before .before .before .check .ensures .answer) ∙ c .before .before .before .before .before .before .before .before .before .program .given .1 in
-    accepted-text (start .args .edition) (now (start .args .bytes)) (start .pre .1 .1) _ v (c .before .before .before .before .before .before .put-first-line .ensures) (c .before .before .put-tokens .ensures)
+    let start = c .before .before .before .before .before .before .before .before .before .before .before .before .before .before .before in
+    let v = sym (c .before .before .before .before .before .before .before .before .before .before .before .before .check .ensures .answer) ∙ c .before .before .before .before .before .before .before .before .before .before .program .given .1 in
+    accepted-text (start .args .edition) (now (start .args .bytes)) (start .pre .1) _ v (c .before .before .before .before .before .before .put-first .ensures) (c .before .before .put-tokens .ensures)
 
 same-length-2 : tie.Need-same-length-2
 same-length-2 c = search needs
 
 returns-2 : tie.Need-returns-2
 returns-2 c =
-    let start = c .before .before .before .before .before .before .before .before .before .before in
-    let v = sym (c .before .before .before .before .before .before .before .check .ensures .answer) ∙ c .before .before .before .before .before .r .given .1 in
-    refused-text (start .args .edition) (now (start .args .bytes)) (start .pre .1 .1) _ v (c .before .before .put-refusal .ensures)
+    let start = c .before .before .before .before .before .before .before .before .before .before .before in
+    let v = sym (c .before .before .before .before .before .before .before .before .check .ensures .answer) ∙ c .before .before .before .before .before .before .r .given .1 in
+    refused-text (start .args .edition) (now (start .args .bytes)) (start .pre .1) _ v (rw (← c .before .before .before .fault-of .ensures) (c .before .before .put-first2 .ensures))
 
 pub put-answer-spec : {M : Type 1} → statement M
 put-answer-spec =
@@ -64,10 +68,12 @@ put-answer-spec =
     (tie.spec
     check-requires
     enum-known-program
-    put-first-line-requires
+    cast-t11
+    put-first-requires
     put-tokens-requires
     enum-known-r
-    put-refusal-requires
+    fault-of-requires
+    put-first-requires-2
     same-length
     returns
     same-length-2

@@ -5,8 +5,9 @@ use Prim.Native.Nat.{_+_, _-_, _*_, _≤_}
 use mathlib.Core.List.{_++_}
 use mathlib.Core.Path.{_≡_, refl, _∙_}
 use native.Mathlib.Omega.{arith}
-use lib.ListN.{length, take}
+use lib.ListN.{length, take, drop}
 use denote.Ref.{now}
+use Rattle.listing.proofs.Writing.{onwards}
 use Rattle.verifier.specs.Rules.{tokenCount}
 use Rattle.report.specs.Lines.{linesFrom, Listable}
 use Rattle.report.proofs.Turn.{decodes, nameable, low, rest, grows, starts, starts-text, finished}
@@ -18,6 +19,8 @@ Inv-loop out₀ at stage bytes count place₀ opened₀ token₀ out place opene
     (token ≤ tokenCount bytes)
     × (place ≤ at + 128 * token)
     × (length out ≡ length out₀)
+    × (at ≤ place)
+    × (drop place out ≡ drop place out₀)
     × Listable stage bytes token (tokenCount bytes - token) opened
     × (take place out ++ linesFrom stage bytes token (tokenCount bytes - token) opened ≡ take at out₀ ++ linesFrom stage bytes 0 (tokenCount bytes) 0)
 
@@ -34,6 +37,8 @@ loop-holds c =
       omega arith,
       omega arith,
       refl,
+      omega arith,
+      refl,
       starts (a .stage) bytes (c .before .before .pre .1 .1),
       starts-text (a .stage) bytes (take (a .at) (now (a .out))),
     )
@@ -42,7 +47,7 @@ token-at-requires : tie.Need-token-at-requires Inv-loop μ-loop
 token-at-requires c κs =
     let a = c .before .before .before .before .args in
     let entry = c .before .loop in
-    decodes (a .stage) (now (a .bytes)) (entry .token) (entry .opened) (c .loop-test .taken) (entry .inv .3)
+    decodes (a .stage) (now (a .bytes)) (entry .token) (entry .opened) (c .loop-test .taken) (entry .inv .5)
 
 shown-depth-requires : tie.Need-shown-depth-requires Inv-loop μ-loop
 shown-depth-requires c κs = search needs
@@ -58,7 +63,7 @@ put-line-requires c κs =
           (entry .token)
           (entry .opened)
           (c .before .before .before .loop-test .taken)
-          (entry .inv .3)
+          (entry .inv .5)
           _
           (c .before .before .token-at .ensures)
           _
@@ -75,7 +80,7 @@ opened-after-requires c κs =
     (entry .token)
     (entry .opened)
     (c .before .before .before .before .before .before .loop-test .taken)
-    (entry .inv .3)
+    (entry .inv .5)
     _
     (c .before .before .before .before .before .token-at .ensures)
 
@@ -96,14 +101,16 @@ loop-again c =
       omega arith,
       omega (arith, put .ensures .room),
       put .kept .0 ∙ entry .inv .2,
-      rest (a .stage) (now (a .bytes)) (entry .token) (entry .opened) inside (entry .inv .3) _ (token .ensures) _ (c .opened-after .ensures),
+      omega (arith, put .ensures .onward),
+      put .ensures .rest ∙ onwards (entry .place) (put .result) _ _ (put .ensures .onward) (entry .inv .4),
+      rest (a .stage) (now (a .bytes)) (entry .token) (entry .opened) inside (entry .inv .5) _ (token .ensures) _ (c .opened-after .ensures),
       grows
           (a .stage)
           (now (a .bytes))
           (entry .token)
           (entry .opened)
           inside
-          (entry .inv .3)
+          (entry .inv .5)
           _
           (token .ensures)
           _
@@ -111,7 +118,7 @@ loop-again c =
           (depth .ensures)
           (c .opened-after .ensures)
           (put .ensures)
-          (entry .inv .4),
+          (entry .inv .6),
     )
 
 same-length : tie.Need-same-length Inv-loop μ-loop
@@ -122,8 +129,10 @@ returns c =
     let a = c .before .before .before .before .args in
     let entry = c .before .loop in
     record {
-      text = finished (a .stage) (now (a .bytes)) (entry .token) (entry .opened) (c .loop-test .left) (entry .inv .4);
+      text = finished (a .stage) (now (a .bytes)) (entry .token) (entry .opened) (c .loop-test .left) (entry .inv .6);
+      onward = entry .inv .3;
       room = omega arith;
+      rest = entry .inv .4;
     }
 
 pub put-tokens-spec : {M : Type 1} → statement M

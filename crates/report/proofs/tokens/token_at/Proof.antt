@@ -2,7 +2,7 @@
 -- Assumes nothing.
 use borrow.Author.Needs.{needs}
 use denote.Ref.{now}
-use Rattle.report.proofs.Listed.{record-is, token-read}
+use Rattle.report.proofs.TokensRead.{record-is, token-read}
 use Rattle.report.proofs.tokens.token_at.Statement.{statement}
 use Rattle.report.proofs.tokens.token_at.Tie as tie
 

@@ -1,17 +1,14 @@
--- `put_first_line` meets its contract.
+-- `put_heading` meets its contract.
 -- Assumes nothing.
 use borrow.Author.Needs.{needs}
 use lib.Dec.{lit≤}
+use Rattle.listing.specs.First.{headingLine}
 use Rattle.listing.proofs.Writing.{_then_, within}
-use Rattle.report.specs.Lines.{firstLine}
-use Rattle.report.proofs.lines.put_first_line.Statement.{statement}
-use Rattle.report.proofs.lines.put_first_line.Tie as tie
+use Rattle.listing.proofs.first.put_heading.Statement.{statement}
+use Rattle.listing.proofs.first.put_heading.Tie as tie
 
 slice-aggregate-put-numbered : tie.Need-slice-aggregate-put-numbered
 slice-aggregate-put-numbered c = search needs
-
-cast-put-numbered : tie.Need-cast-put-numbered
-cast-put-numbered c = search needs
 
 put-numbered-requires : tie.Need-put-numbered-requires
 put-numbered-requires c κs = search needs
@@ -31,9 +28,6 @@ put-either-requires c κs = search needs
 slice-aggregate-put-numbered-2 : tie.Need-slice-aggregate-put-numbered-2
 slice-aggregate-put-numbered-2 c = search needs
 
-cast-put-numbered-2 : tie.Need-cast-put-numbered-2
-cast-put-numbered-2 c = search needs
-
 put-numbered-requires-2 : tie.Need-put-numbered-requires-2
 put-numbered-requires-2 c κs = search needs
 
@@ -44,28 +38,22 @@ same-length : tie.Need-same-length
 same-length c = search needs
 
 returns : tie.Need-returns
-unfolding firstLine
+unfolding headingLine
 returns c =
-    let e5 = c .before .before in
-    let e4 = e5 .before .before .before .before in
-    let e3 = e4 .before .before .before .before .before in
-    let e2 = e3 .before .before .before .before .before .before in
-    let e1 = e2 .before .before .before .before in
-    within 26 (lit≤ tt) (e1 .put-numbered .ensures then e2 .put-byte .ensures then e3 .put-either .ensures then e4 .put-numbered2 .ensures then e5 .put-byte2 .ensures)
+    within 34 (lit≤ tt)
+    (c .before .before .before .before .before .before .before .before .before .before .before .before .before .before .before .before .before .before .before .before .before .before .put-numbered .ensures then c .before .before .before .before .before .before .before .before .before .before .before .before .before .before .before .before .before .before .put-byte .ensures then c .before .before .before .before .before .before .before .before .before .before .before .put-either .ensures then c .before .before .before .before .before .before .put-numbered2 .ensures then c .before .before .put-byte2 .ensures)
 
-pub put-first-line-spec : {M : Type 1} → statement M
-put-first-line-spec =
+pub put-heading-spec : {M : Type 1} → statement M
+put-heading-spec =
     tie.close
     (tie.spec
     slice-aggregate-put-numbered
-    cast-put-numbered
     put-numbered-requires
     put-byte-requires
     slice-aggregate-put-either
     slice-aggregate-put-either-2
     put-either-requires
     slice-aggregate-put-numbered-2
-    cast-put-numbered-2
     put-numbered-requires-2
     put-byte-requires-2
     same-length
