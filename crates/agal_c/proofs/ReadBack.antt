@@ -11,16 +11,16 @@ use lib.ListN.{length}
 use borrow.Author.Tests.{le-ltb}
 use Rattle.laws.specs.Tests.{eqZ}
 use Rattle.laws.proofs.Every.{below, eqZ→eq}
-use Rattle.bytecode.specs.Layout.{wordAt, wordBytes}
-use Rattle.bytecode.specs.Records.{signed}
+use Rattle.layout.specs.Layout.{wordAt, wordBytes}
+use Rattle.layout.specs.Records.{signed}
 use Rattle.bytecode.specs.Encode.{unsigned, isSignedByte}
 use Rattle.bytecode.proofs.Words.{fields-again}
-use Rattle.bytecode.specs.declared.fields.Fields.{Fields}
-use Rattle.bytecode.specs.declared.record.Destination.{Destination}
-use Rattle.bytecode.specs.declared.record.Destination.the-variants.{Unused as NoDestination, Masked}
-use Rattle.bytecode.specs.declared.record.Operand.{Operand}
-use Rattle.bytecode.specs.declared.record.Operand.the-variants.{Unused as NoOperand, Direct, Indexed, Sampler as Sampled}
-use Rattle.bytecode.specs.declared.record.Token.{Token}
+use Rattle.layout.specs.declared.fields.Fields.{Fields}
+use Rattle.layout.specs.declared.record.Destination.{Destination}
+use Rattle.layout.specs.declared.record.Destination.the-variants.{Unused as NoDestination, Masked}
+use Rattle.layout.specs.declared.record.Operand.{Operand}
+use Rattle.layout.specs.declared.record.Operand.the-variants.{Unused as NoOperand, Direct, Indexed, Sampler as Sampled}
+use Rattle.layout.specs.declared.record.Token.{Token}
 use Rattle.agal_c.specs.Values.{values, destinationValues, operandValues, destinationFrom, operandFrom}
 use Rattle.agal_c.specs.Flat.{flatOf, isFlat, tokenOfFlat}
 use Rattle.agal_c.specs.ReadBack.{BiasHeld, ReadBack}

@@ -4,8 +4,8 @@ use mathlib.Core.Bool.{Bool, false, cond, _&&_}
 use mathlib.Core.List.{List, [], _∷_, _++_}
 use lib.Dec.{ltb, leb}
 use lib.ListN.{length, getD}
-use Rattle.bytecode.specs.Layout.{wordAt, wordBytes}
-use Rattle.bytecode.specs.declared.record.Token.{Token}
+use Rattle.layout.specs.Layout.{wordAt, wordBytes}
+use Rattle.layout.specs.declared.record.Token.{Token}
 use Rattle.agal_c.specs.Values.{values, destinationValues, operandValues, destinationFrom, operandFrom}
 use Rattle.agal_c.specs.declared.values.Values.{Values}
 

@@ -2,15 +2,15 @@
 use Prim.Native.Nat.{ℕ}
 use mathlib.Core.Bool.{cond}
 use lib.Dec.{eqb}
-use Rattle.bytecode.specs.Records.{signed}
+use Rattle.layout.specs.Records.{signed}
 use Rattle.bytecode.specs.Encode.{unsigned}
-use Rattle.bytecode.specs.declared.record.Destination.{Destination}
-use Rattle.bytecode.specs.declared.record.Destination.the-variants.{Unused as NoDestination, Masked}
-use Rattle.bytecode.specs.declared.record.DirectSource.{DirectSource}
-use Rattle.bytecode.specs.declared.record.IndexedSource.{IndexedSource}
-use Rattle.bytecode.specs.declared.record.Sampler.{Sampler}
-use Rattle.bytecode.specs.declared.record.Operand.{Operand}
-use Rattle.bytecode.specs.declared.record.Operand.the-variants.{Unused as NoOperand, Direct, Indexed, Sampler as Sampled}
+use Rattle.layout.specs.declared.record.Destination.{Destination}
+use Rattle.layout.specs.declared.record.Destination.the-variants.{Unused as NoDestination, Masked}
+use Rattle.layout.specs.declared.record.DirectSource.{DirectSource}
+use Rattle.layout.specs.declared.record.IndexedSource.{IndexedSource}
+use Rattle.layout.specs.declared.record.Sampler.{Sampler}
+use Rattle.layout.specs.declared.record.Operand.{Operand}
+use Rattle.layout.specs.declared.record.Operand.the-variants.{Unused as NoOperand, Direct, Indexed, Sampler as Sampled}
 use Rattle.agal_c.specs.declared.values.Values.{Values}
 
 -- form, number and the values after it

@@ -11,7 +11,7 @@ use crate::answers::Answer;
 use crate::values;
 use crate::values::Values;
 use bytecode::answers::Decoded;
-use bytecode::record::Token;
+use layout::record::Token;
 
 // Writes the flat form of a record that was read at a place, `step` before the next one, or answers the refusal; 23 where the lent buffer
 // has no room for a flat form.

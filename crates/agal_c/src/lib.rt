@@ -13,7 +13,7 @@ ghost use Rattle.listing.specs.Printing.{printAnswer, afterPrint};
 ghost use Rattle.report.specs.Text.{textOf};
 ghost use Rattle.agal_c.specs.Calls.{checkAnswer, deliveryAnswer, delivered, encodeAnswer, afterFlatEncode, printedAnswer, lineAnswerOf, afterFlatLine};
 use crate::answers::Answer;
-use bytecode::record::Sampler;
+use layout::record::Sampler;
 use verifier::answers::Checked;
 
 // Judges a program under an edition: its stage and token count, or the first fault.

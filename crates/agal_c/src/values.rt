@@ -1,12 +1,12 @@
 // The values of a destination or a source, whatever its kind: what the flat form has a place for.
 ghost use mathlib.Core.Path.{_≡_};
 ghost use Rattle.agal_c.specs.Values.{values as valuesOf, destinationValues, samplerValues, operandValues, destinationFrom, samplerFrom, operandFrom};
-use bytecode::record::Destination;
-use bytecode::record::DirectSource;
-use bytecode::record::IndexedSource;
-use bytecode::record::MaskedRegister;
-use bytecode::record::Operand;
-use bytecode::record::Sampler;
+use layout::record::Destination;
+use layout::record::DirectSource;
+use layout::record::IndexedSource;
+use layout::record::MaskedRegister;
+use layout::record::Operand;
+use layout::record::Sampler;
 
 // `form` tells the cases of the record apart: 0 unused, 1 register or direct source, 2 indexed source, 3 sampler. The C header calls it the
 // kind, a word that is a register's type here. The values after the number stand in the order of the record; those that a case does not
@@ -146,7 +146,7 @@ pub(crate) fn operand_from(v: Values) -> Operand
 fn sampler_from(v: Values) -> Sampler
     ensures { λ r. ⌜ r ≡ samplerFrom v ⌝ }
 {
-    let bias = bytecode::signed_byte(v.first);
+    let bias = layout::signed_byte(v.first);
     Sampler {
         number: v.number,
         bias,

@@ -2,10 +2,10 @@
 use crate::print;
 use bytecode::answers::Decoded;
 use bytecode::answers::Encoded;
-use bytecode::record::Destination;
-use bytecode::record::Operand;
-use bytecode::record::Sampler;
-use bytecode::record::Token;
+use layout::record::Destination;
+use layout::record::Operand;
+use layout::record::Sampler;
+use layout::record::Token;
 
 // Decodes bytes and prints the record, and whether it encodes to the same bytes.
 pub fn decoded(bytes: &[u8]) {

@@ -5,13 +5,13 @@ ghost use Prim.Native.Nat.{_≤_};
 ghost use mathlib.Core.Path.{_≡_};
 ghost use lib.ListN.{length};
 use bytecode::answers::Decoded;
-use bytecode::record::Destination;
-use bytecode::record::DirectSource;
-use bytecode::record::IndexedSource;
-use bytecode::record::MaskedRegister;
-use bytecode::record::Operand;
-use bytecode::record::Sampler;
-use bytecode::record::Token;
+use layout::record::Destination;
+use layout::record::DirectSource;
+use layout::record::IndexedSource;
+use layout::record::MaskedRegister;
+use layout::record::Operand;
+use layout::record::Sampler;
+use layout::record::Token;
 
 pub fn token(s: &[u8]) -> Token
     requires { ⌜ 30 ≤ length (now s) ⌝ }

@@ -1,7 +1,7 @@
 // Cases of line.
 use crate::flat;
 use crate::print;
-use bytecode::record::Token;
+use layout::record::Token;
 use listing::answers::Printed;
 
 // A record as the cases of encode have it, its first byte the room there is, and then a stage and a depth.

@@ -8,14 +8,14 @@ use native.Mathlib.Omega.{arith}
 use lib.Dec.{eqb}
 use lib.ListN.{length}
 use borrow.Author.Tests.{eq-eqb, ne-eqb, eqb-true, eqb-false, not-false}
-use Rattle.bytecode.specs.Opcodes.{shapeOf}
+use Rattle.layout.specs.Opcodes.{shapeOf}
 use Rattle.bytecode.specs.Fields.{fieldsOf}
-use Rattle.bytecode.specs.Layout.{destinationBits, operandBits, isStray}
-use Rattle.bytecode.specs.Records.{tokenOf}
+use Rattle.layout.specs.Layout.{destinationBits, operandBits, isStray}
+use Rattle.layout.specs.Records.{tokenOf}
 use Rattle.bytecode.specs.Decode.{refusal, noRefusal, lowestPart, unusedPart, undefinedPart, isClean, tokenFault, decodeFault, notExamined, examinedFields, examinedOf, decodeOf, Decodes}
-use Rattle.bytecode.specs.declared.opcodes.Shape.{Shape}
-use Rattle.bytecode.specs.declared.fields.Fields.{Fields}
-use Rattle.bytecode.specs.declared.record.Token.{Token}
+use Rattle.layout.specs.declared.opcodes.Shape.{Shape}
+use Rattle.layout.specs.declared.fields.Fields.{Fields}
+use Rattle.layout.specs.declared.record.Token.{Token}
 use Rattle.bytecode.specs.declared.answers.Examined.{Examined}
 use Rattle.bytecode.specs.declared.answers.Refusal.{Refusal}
 use Rattle.bytecode.specs.declared.answers.Decoded.the-variants.{Token as Accepted, Refused}

@@ -10,10 +10,10 @@ use lib.ListN.{length, drop}
 use borrow.Author.Tests.{lt-ltb, le-ltb, ltb-false}
 use Rattle.bytecode.specs.Decode.{refusal, noRefusal}
 use Rattle.bytecode.specs.Encode.{packed, packedToken, isEncodable, tokenBytes, encodeFault, encodeOf, afterEncode, Encodes}
-use Rattle.bytecode.specs.declared.fields.Fields.{Fields}
+use Rattle.layout.specs.declared.fields.Fields.{Fields}
 use Rattle.bytecode.specs.declared.pack.Packed.the-variants.{Field, Unfit}
 use Rattle.bytecode.specs.declared.pack.PackedToken.the-variants.{Fields as AllFields, Unfit as NoFields}
-use Rattle.bytecode.specs.declared.record.Token.{Token}
+use Rattle.layout.specs.declared.record.Token.{Token}
 use Rattle.bytecode.specs.declared.answers.Encoded.the-variants.{Written, Refused}
 
 pub unfit : (b : Bool) (f : ℕ) → packed b f ≡ Unfit → b ≡ false

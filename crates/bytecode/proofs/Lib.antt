@@ -1,14 +1,8 @@
 pub mod DecodeLaws
 pub mod EncodeLaws
 pub mod Floats
-pub mod Listed
-pub mod ShapeSets
 pub mod RegisterAgain
 pub mod RoundTrip
-pub mod Rows
 pub mod SamplerAgain
-pub mod Shifts
 pub mod SourceAgain
-pub mod SourceKinds
-pub mod Stray
 pub mod Words

@@ -8,13 +8,13 @@ use native.Mathlib.Omega.{arith}
 use lib.Dec.{ltb, lit≤}
 use lib.ListN.{getD}
 use borrow.Author.Tests.{lt-ltb, ltb-true}
-use Rattle.bytecode.specs.Layout as layout
-use Rattle.bytecode.specs.Layout.{valueOf, definedBits, destinationRows, isStray}
-use Rattle.bytecode.specs.Records.{registerOf}
+use Rattle.layout.specs.Layout as layout
+use Rattle.layout.specs.Layout.{valueOf, definedBits, destinationRows, isStray}
+use Rattle.layout.specs.Records.{registerOf}
 use Rattle.bytecode.specs.Encode.{registerFits, registerField}
-use Rattle.bytecode.specs.declared.record.MaskedRegister.{MaskedRegister}
-use Rattle.bytecode.proofs.Rows.{Rising, Fit, pack, values-again}
-use Rattle.bytecode.proofs.Stray.{all-kept, none-stray}
+use Rattle.layout.specs.declared.record.MaskedRegister.{MaskedRegister}
+use Rattle.layout.proofs.Rows.{Rising, Fit, pack, values-again}
+use Rattle.layout.proofs.Stray.{all-kept, none-stray}
 use Rattle.laws.proofs.Every.{left, right}
 
 rising : Rising 0 destinationRows

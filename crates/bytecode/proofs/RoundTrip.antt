@@ -11,31 +11,31 @@ use lib.Dec.{T, lit<}
 use lib.ListN.{take, drop}
 use lib.Seq.{take-at}
 use lib.Pow.{areBytes}
-use Rattle.bytecode.specs.Opcodes.{shapeOf}
-use Rattle.bytecode.specs.Layout.{destinationBits, operandBits, isStray}
+use Rattle.layout.specs.Opcodes.{shapeOf}
+use Rattle.layout.specs.Layout.{destinationBits, operandBits, isStray}
 use Rattle.bytecode.specs.Fields.{fieldsOf, bytesOf}
-use Rattle.bytecode.specs.Records.{destinationOf, operandOf, tokenOf}
+use Rattle.layout.specs.Records.{destinationOf, operandOf, tokenOf}
 use Rattle.bytecode.specs.Decode.{noRefusal, tokenFault, decodeOf}
 use Rattle.bytecode.specs.Encode.{destinationFits, destinationField, operandFits, operandField, isEncodable, tokenFields, tokenBytes}
 use Rattle.bytecode.specs.RoundTrip.{RoundTrip}
-use Rattle.bytecode.specs.declared.opcodes.OperandShape.{OperandShape}
-use Rattle.bytecode.specs.declared.opcodes.OperandShape.the-variants.{Unused as NoField, Source as SourceField, Sampler as SamplerField}
-use Rattle.bytecode.specs.declared.fields.Fields.{Fields}
-use Rattle.bytecode.specs.declared.record.Destination.{Destination}
-use Rattle.bytecode.specs.declared.record.Destination.the-variants.{Unused as NoDestination, Masked}
-use Rattle.bytecode.specs.declared.record.Operand.{Operand}
-use Rattle.bytecode.specs.declared.record.Operand.the-variants.{Unused as NoOperand, Direct, Indexed, Sampler as Sampled}
-use Rattle.bytecode.specs.declared.record.Token.{Token}
+use Rattle.layout.specs.declared.opcodes.OperandShape.{OperandShape}
+use Rattle.layout.specs.declared.opcodes.OperandShape.the-variants.{Unused as NoField, Source as SourceField, Sampler as SamplerField}
+use Rattle.layout.specs.declared.fields.Fields.{Fields}
+use Rattle.layout.specs.declared.record.Destination.{Destination}
+use Rattle.layout.specs.declared.record.Destination.the-variants.{Unused as NoDestination, Masked}
+use Rattle.layout.specs.declared.record.Operand.{Operand}
+use Rattle.layout.specs.declared.record.Operand.the-variants.{Unused as NoOperand, Direct, Indexed, Sampler as Sampled}
+use Rattle.layout.specs.declared.record.Token.{Token}
 use Rattle.bytecode.specs.declared.answers.Decoded.the-variants.{Token as Accepted}
 use Rattle.bytecode.proofs.DecodeLaws.{Clean, clean, clean-none, accepted, no-faults}
 use Rattle.bytecode.proofs.EncodeLaws.{written, was-written}
 use Rattle.bytecode.proofs.RegisterAgain.{register-fits, register-again, register-of, register-clean, register-small}
 use Rattle.bytecode.proofs.SourceAgain.{source-fits, source-again, direct-of, indexed-of, source-clean, source-small}
 use Rattle.bytecode.proofs.SamplerAgain.{sampler-fits, sampler-again, sampler-of, sampler-clean, sampler-small}
-use Rattle.bytecode.proofs.Stray.{not-stray}
+use Rattle.layout.proofs.Stray.{not-stray}
 use Rattle.laws.proofs.Every.{left, right}
 use Rattle.bytecode.proofs.Words.{bytes-again, fields-again}
-use Rattle.bytecode.proofs.Listed.{listed-below}
+use Rattle.layout.proofs.Listed.{listed-below}
 
 -- ---- from bytes
 

@@ -9,14 +9,14 @@ use lib.Dec.{eqb, ltb, eqb→eq, lit≤}
 use lib.IntN.{ℤ, pos, negsuc}
 use lib.ListN.{getD}
 use borrow.Author.Tests.{lt-ltb, le-ltb, ltb-true}
-use Rattle.bytecode.specs.Layout as layout
-use Rattle.bytecode.specs.Layout.{valueOf, definedBits, samplerRows, isStray}
-use Rattle.bytecode.specs.Records.{signed, samplerOf}
+use Rattle.layout.specs.Layout as layout
+use Rattle.layout.specs.Layout.{valueOf, definedBits, samplerRows, isStray}
+use Rattle.layout.specs.Records.{signed, samplerOf}
 use Rattle.bytecode.specs.Encode.{unsigned, isSignedByte, samplerFits, samplerField}
-use Rattle.bytecode.specs.declared.record.Sampler.{Sampler}
+use Rattle.layout.specs.declared.record.Sampler.{Sampler}
 use Rattle.laws.proofs.Every.{below, both-left, both-right, is-true, left, right}
-use Rattle.bytecode.proofs.Rows.{Rising, Fit, pack, values-again}
-use Rattle.bytecode.proofs.Stray.{all-kept, none-stray}
+use Rattle.layout.proofs.Rows.{Rising, Fit, pack, values-again}
+use Rattle.layout.proofs.Stray.{all-kept, none-stray}
 
 -- ---- a signed byte
 

@@ -8,16 +8,16 @@ use native.Mathlib.Omega.{arith}
 use lib.Dec.{eqb, ltb, lit≤, lit<}
 use lib.ListN.{getD}
 use borrow.Author.Tests.{lt-ltb, ltb-true, eq-eqb, ne-eqb, eqb-true, eqb-false}
-use Rattle.bytecode.specs.Layout as layout
-use Rattle.bytecode.specs.Layout.{valueOf, definedBits, sourceRows, isStray}
-use Rattle.bytecode.specs.Records.{directOf, indexedOf, sourceOf}
+use Rattle.layout.specs.Layout as layout
+use Rattle.layout.specs.Layout.{valueOf, definedBits, sourceRows, isStray}
+use Rattle.layout.specs.Records.{directOf, indexedOf, sourceOf}
 use Rattle.bytecode.specs.Encode.{sourceFits, sourceField, operandFits, operandField}
-use Rattle.bytecode.specs.declared.opcodes.OperandShape.the-variants.{Source as SourceField}
-use Rattle.bytecode.specs.declared.record.DirectSource.{DirectSource}
-use Rattle.bytecode.specs.declared.record.IndexedSource.{IndexedSource}
-use Rattle.bytecode.specs.declared.record.Operand.the-variants.{Direct, Indexed}
-use Rattle.bytecode.proofs.Rows.{Rising, Fit, pack, values, values-again}
-use Rattle.bytecode.proofs.Stray.{all-kept, none-stray}
+use Rattle.layout.specs.declared.opcodes.OperandShape.the-variants.{Source as SourceField}
+use Rattle.layout.specs.declared.record.DirectSource.{DirectSource}
+use Rattle.layout.specs.declared.record.IndexedSource.{IndexedSource}
+use Rattle.layout.specs.declared.record.Operand.the-variants.{Direct, Indexed}
+use Rattle.layout.proofs.Rows.{Rising, Fit, pack, values, values-again}
+use Rattle.layout.proofs.Stray.{all-kept, none-stray}
 use Rattle.laws.proofs.Every.{left, right}
 
 rising : Rising 0 sourceRows

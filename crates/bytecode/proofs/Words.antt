@@ -8,11 +8,11 @@ use native.Mathlib.Omega.{arith}
 use lib.Dec.{T, ltb, ltb→lt, lit<}
 use lib.ListN.{length, getD}
 use lib.Pow.{areBytes}
-use Rattle.bytecode.specs.Layout.{wordAt, wordBytes}
+use Rattle.layout.specs.Layout.{wordAt, wordBytes}
 use Rattle.bytecode.specs.Fields.{fieldsOf, bytesOf}
-use Rattle.bytecode.specs.declared.fields.Fields.{Fields}
+use Rattle.layout.specs.declared.fields.Fields.{Fields}
 use Rattle.laws.proofs.Every.{both-left, both-right}
-use Rattle.bytecode.proofs.Rows.{value-is, splits}
+use Rattle.layout.proofs.Rows.{value-is, splits}
 
 byte : (s : List ℕ) → T (areBytes s) → (i : ℕ) → getD s i 0 < 256
 byte [] t i = lit< tt

@@ -5,12 +5,12 @@ use mathlib.Core.List.{List}
 use mathlib.Core.Path.{_≡_}
 use lib.Dec.{eqb}
 use lib.ListN.{length}
-use Rattle.bytecode.specs.Opcodes.{unlisted, shapeOf}
-use Rattle.bytecode.specs.Layout.{destinationBits, operandBits, isStray}
+use Rattle.layout.specs.Opcodes.{unlisted, shapeOf}
+use Rattle.layout.specs.Layout.{destinationBits, operandBits, isStray}
 use Rattle.bytecode.specs.Fields.{fieldsOf}
-use Rattle.bytecode.specs.Records.{tokenOf}
-use Rattle.bytecode.specs.declared.opcodes.Shape.{Shape}
-use Rattle.bytecode.specs.declared.fields.Fields.{Fields}
+use Rattle.layout.specs.Records.{tokenOf}
+use Rattle.layout.specs.declared.opcodes.Shape.{Shape}
+use Rattle.layout.specs.declared.fields.Fields.{Fields}
 use Rattle.bytecode.specs.declared.answers.Refusal.{Refusal}
 use Rattle.bytecode.specs.declared.answers.Decoded.{Decoded}
 use Rattle.bytecode.specs.declared.answers.Examined.{Examined}

@@ -6,25 +6,25 @@ use mathlib.Core.Path.{_≡_}
 use lib.Dec.{ltb, eqb}
 use lib.IntN.{ℤ, pos, negsuc}
 use lib.ListN.{length, drop}
-use Rattle.bytecode.specs.Layout as layout
-use Rattle.bytecode.specs.Layout.{placed, fits}
-use Rattle.bytecode.specs.Opcodes.{shapeOf}
+use Rattle.layout.specs.Layout as layout
+use Rattle.layout.specs.Layout.{placed, fits}
+use Rattle.layout.specs.Opcodes.{shapeOf}
 use Rattle.bytecode.specs.Fields.{bytesOf}
 use Rattle.bytecode.specs.Decode.{refusal, noRefusal}
-use Rattle.bytecode.specs.declared.opcodes.OperandShape.{OperandShape}
-use Rattle.bytecode.specs.declared.opcodes.OperandShape.the-variants.{Unused as NoField, Source as SourceField, Sampler as SamplerField}
-use Rattle.bytecode.specs.declared.fields.Fields.{Fields}
+use Rattle.layout.specs.declared.opcodes.OperandShape.{OperandShape}
+use Rattle.layout.specs.declared.opcodes.OperandShape.the-variants.{Unused as NoField, Source as SourceField, Sampler as SamplerField}
+use Rattle.layout.specs.declared.fields.Fields.{Fields}
 use Rattle.bytecode.specs.declared.pack.Packed.{Packed}
 use Rattle.bytecode.specs.declared.pack.Packed.the-variants.{Field, Unfit}
 use Rattle.bytecode.specs.declared.pack.PackedToken.{PackedToken}
 use Rattle.bytecode.specs.declared.pack.PackedToken.the-variants.{Fields as AllFields, Unfit as NoFields}
-use Rattle.bytecode.specs.declared.record.MaskedRegister.{MaskedRegister}
-use Rattle.bytecode.specs.declared.record.Destination.{Destination}
-use Rattle.bytecode.specs.declared.record.Destination.the-variants.{Unused as NoDestination, Masked}
-use Rattle.bytecode.specs.declared.record.Sampler.{Sampler}
-use Rattle.bytecode.specs.declared.record.Operand.{Operand}
-use Rattle.bytecode.specs.declared.record.Operand.the-variants.{Unused as NoOperand, Direct, Indexed, Sampler as Sampled}
-use Rattle.bytecode.specs.declared.record.Token.{Token}
+use Rattle.layout.specs.declared.record.MaskedRegister.{MaskedRegister}
+use Rattle.layout.specs.declared.record.Destination.{Destination}
+use Rattle.layout.specs.declared.record.Destination.the-variants.{Unused as NoDestination, Masked}
+use Rattle.layout.specs.declared.record.Sampler.{Sampler}
+use Rattle.layout.specs.declared.record.Operand.{Operand}
+use Rattle.layout.specs.declared.record.Operand.the-variants.{Unused as NoOperand, Direct, Indexed, Sampler as Sampled}
+use Rattle.layout.specs.declared.record.Token.{Token}
 use Rattle.bytecode.specs.declared.answers.Refusal.{Refusal}
 use Rattle.bytecode.specs.declared.answers.Encoded.{Encoded}
 use Rattle.bytecode.specs.declared.answers.Encoded.the-variants.{Written, Refused}

@@ -2,8 +2,8 @@
 use Prim.Native.Nat.{ℕ, _+_, _/_, _%_, _^_}
 use mathlib.Core.List.{List, _++_}
 use lib.ListN.{set}
-use Rattle.bytecode.specs.Layout.{wordAt, longAt, wordBytes}
-use Rattle.bytecode.specs.declared.fields.Fields.{Fields}
+use Rattle.layout.specs.Layout.{wordAt, longAt, wordBytes}
+use Rattle.layout.specs.declared.fields.Fields.{Fields}
 
 abbrev pub fieldsOf : List ℕ → Fields
 fieldsOf s = record { opcode = wordAt s 0; destination = wordAt s 4; source1 = longAt s 8; source2 = longAt s 16 }

@@ -2,8 +2,4 @@ pub mod Bias
 pub mod Decode
 pub mod Encode
 pub mod Fields
-pub mod Layout
-pub mod Opcodes
-pub mod Records
 pub mod RoundTrip
-pub mod Swizzles

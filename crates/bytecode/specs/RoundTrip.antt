@@ -8,7 +8,7 @@ use lib.ListN.{length, take, drop}
 use lib.Pow.{areBytes}
 use Rattle.bytecode.specs.Decode.{decodeOf}
 use Rattle.bytecode.specs.Encode.{encodeOf, afterEncode}
-use Rattle.bytecode.specs.declared.record.Token.{Token}
+use Rattle.layout.specs.declared.record.Token.{Token}
 use Rattle.bytecode.specs.declared.answers.Decoded.the-variants.{Token as Accepted}
 use Rattle.bytecode.specs.declared.answers.Encoded.the-variants.{Written}
 

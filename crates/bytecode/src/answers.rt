@@ -1,7 +1,7 @@
 // What decode and encode answer.
-use crate::fields::Fields;
-use crate::opcodes::Shape;
-use crate::record::Token;
+use layout::fields::Fields;
+use layout::opcodes::Shape;
+use layout::record::Token;
 
 // A refusal by the numbers of the format's rules: the fault, the token it stands at, and the part of the token (0 opcode, 1 destination,
 // 2 source 1, 3 source 2). What no rule names is 0.

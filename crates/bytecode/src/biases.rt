@@ -1,6 +1,6 @@
 // The level-of-detail bias of a sampler as a float.
 ghost use Rattle.bytecode.specs.Bias.{IsBias};
-use crate::record::Sampler;
+use layout::record::Sampler;
 
 // Exactly an eighth of the record's signed byte.
 pub fn bias(sampler: Sampler) -> f32

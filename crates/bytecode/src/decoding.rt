@@ -1,18 +1,17 @@
 // Decode: a record from 24 bytes, or the first fault.
 ghost use mathlib.Core.Path.{_≡_};
 ghost use Rattle.bytecode.specs.Decode.{Decodes, examinedOf, notExamined, isClean, tokenFault, unusedNotZero, undefinedBitSet, unusedPart, undefinedPart, lowestPart, refusal};
-ghost use Rattle.bytecode.specs.Records.{tokenOf};
+ghost use Rattle.layout.specs.Records.{tokenOf};
 use crate::answers::Decoded;
 use crate::answers::Examined;
 use crate::answers::Refusal;
-use crate::fields;
-use crate::fields::Fields;
-use crate::layout;
-use crate::opcodes;
-use crate::opcodes::OperandShape;
-use crate::opcodes::Shape;
-use crate::record::Token;
-use crate::unpack;
+use crate::bytes;
+use layout::bits;
+use layout::fields::Fields;
+use layout::opcodes;
+use layout::opcodes::OperandShape;
+use layout::opcodes::Shape;
+use layout::record::Token;
 
 pub fn decode(bytes: &[u8]) -> Decoded
     ensures { λ r. ⌜ Decodes (now (bytes .entry)) r ⌝ }
@@ -20,7 +19,7 @@ pub fn decode(bytes: &[u8]) -> Decoded
     if bytes.len() != 24 {
         return Decoded::Refused(refused(24, 0));
     }
-    let f = fields::read_fields(bytes);
+    let f = bytes::read_fields(bytes);
     let shape = opcodes::shape_of(f.opcode);
     if is_clean(shape, f) {
         return Decoded::Token(token_of(shape, f));
@@ -37,7 +36,7 @@ pub fn examine(bytes: &[u8]) -> Examined
     if length != 24 {
         return too_short_or_long();
     }
-    let fields = fields::read_fields(bytes);
+    let fields = bytes::read_fields(bytes);
     let shape = opcodes::shape_of(fields.opcode);
     if is_clean(shape, fields) {
         return examined(refused(0, 0), shape, fields);
@@ -81,9 +80,9 @@ fn token_of(shape: Shape, f: Fields) -> Token
 {
     let shape1 = shape.source1;
     let shape2 = shape.source2;
-    let destination = unpack::unpack_destination(shape.destination, f.destination);
-    let source1 = unpack::unpack_operand(shape1, f.source1);
-    let source2 = unpack::unpack_operand(shape2, f.source2);
+    let destination = layout::unpack_destination(shape.destination, f.destination);
+    let source1 = layout::unpack_operand(shape1, f.source1);
+    let source2 = layout::unpack_operand(shape2, f.source2);
     Token {
         opcode: f.opcode,
         destination,
@@ -116,9 +115,9 @@ fn is_clean(shape: Shape, f: Fields) -> bool
 {
     let shape1 = shape.source1;
     let shape2 = shape.source2;
-    let destination = layout::is_stray(layout::destination_bits(shape.destination), f.destination);
-    let source1 = layout::is_stray(layout::operand_bits(shape1), f.source1);
-    let source2 = layout::is_stray(layout::operand_bits(shape2), f.source2);
+    let destination = bits::is_stray(bits::destination_bits(shape.destination), f.destination);
+    let source1 = bits::is_stray(bits::operand_bits(shape1), f.source1);
+    let source2 = bits::is_stray(bits::operand_bits(shape2), f.source2);
     shape.listed & !(destination | source1 | source2)
 }
 
@@ -129,9 +128,9 @@ fn unused_part(shape: Shape, f: Fields) -> u8
     let shape1 = shape.source1;
     let shape2 = shape.source2;
     lowest(
-        unused_not_zero(layout::destination_bits(shape.destination), f.destination),
-        unused_not_zero(layout::operand_bits(shape1), f.source1),
-        unused_not_zero(layout::operand_bits(shape2), f.source2),
+        unused_not_zero(bits::destination_bits(shape.destination), f.destination),
+        unused_not_zero(bits::operand_bits(shape1), f.source1),
+        unused_not_zero(bits::operand_bits(shape2), f.source2),
     )
 }
 
@@ -142,9 +141,9 @@ fn undefined_part(shape: Shape, f: Fields) -> u8
     let shape1 = shape.source1;
     let shape2 = shape.source2;
     lowest(
-        undefined_bit_set(layout::destination_bits(shape.destination), f.destination),
-        undefined_bit_set(layout::operand_bits(shape1), f.source1),
-        undefined_bit_set(layout::operand_bits(shape2), f.source2),
+        undefined_bit_set(bits::destination_bits(shape.destination), f.destination),
+        undefined_bit_set(bits::operand_bits(shape1), f.source1),
+        undefined_bit_set(bits::operand_bits(shape2), f.source2),
     )
 }
 
@@ -152,13 +151,13 @@ fn undefined_part(shape: Shape, f: Fields) -> u8
 fn unused_not_zero(defined: u64, field: u64) -> bool
     ensures { λ r. ⌜ r ≡ unusedNotZero defined field ⌝ }
 {
-    (defined == 0) & layout::is_stray(defined, field)
+    (defined == 0) & bits::is_stray(defined, field)
 }
 
 fn undefined_bit_set(defined: u64, field: u64) -> bool
     ensures { λ r. ⌜ r ≡ undefinedBitSet defined field ⌝ }
 {
-    (defined != 0) & layout::is_stray(defined, field)
+    (defined != 0) & bits::is_stray(defined, field)
 }
 
 // The lowest part at fault, 0 where none is: 1 the destination, 2 source 1, 3 source 2.

@@ -2,11 +2,11 @@
 ghost use mathlib.Core.Path.{_≡_};
 ghost use Rattle.bytecode.specs.Encode.{Encodes, isEncodable};
 use crate::answers::Encoded;
+use crate::bytes;
 use crate::decoding;
-use crate::fields;
 use crate::pack;
 use crate::pack::PackedToken;
-use crate::record::Token;
+use layout::record::Token;
 
 pub fn encode(token: Token, out: &mut [u8]) -> Encoded
     ensures { λ r. ⌜ Encodes token (now (out .entry)) (now (out .exit)) r ⌝ }
@@ -17,7 +17,7 @@ pub fn encode(token: Token, out: &mut [u8]) -> Encoded
     if out.len() < 24 {
         return Encoded::Refused(decoding::refused(23, 0));
     }
-    fields::write_fields(f, out);
+    bytes::write_fields(f, out);
     Encoded::Written
 }
 

@@ -2,17 +2,19 @@
 ghost use mathlib.Core.Path.{_≡_};
 ghost use Prim.Native.Nat.{_+_, _<_, _≤_, _^_};
 ghost use lib.Dec.{T};
+ghost use Rattle.layout.specs.Layout.{placedAt};
 ghost use Rattle.bytecode.specs.Encode.{packed, unsigned, isSignedByte, registerFits, registerField, destinationFits, destinationField, sourceLow, SourceHigh, sourceHigh, sourceFits, sourceField, samplerLow, SamplerHigh, samplerHigh, samplerFits, samplerField, operandFits, operandField, isEncodable, tokenFields, packedToken};
-use crate::fields::Fields;
-use crate::layout;
-use crate::opcodes;
-use crate::opcodes::OperandShape;
-use crate::opcodes::Shape;
-use crate::record::Destination;
-use crate::record::MaskedRegister;
-use crate::record::Operand;
-use crate::record::Sampler;
-use crate::record::Token;
+use layout::bits;
+use layout::bits::Bits;
+use layout::fields::Fields;
+use layout::opcodes;
+use layout::opcodes::OperandShape;
+use layout::opcodes::Shape;
+use layout::record::Destination;
+use layout::record::MaskedRegister;
+use layout::record::Operand;
+use layout::record::Sampler;
+use layout::record::Token;
 
 // A field, or none where a value is too wide or an operand is not of the opcode's shape.
 pub(crate) enum Packed {
@@ -103,9 +105,9 @@ fn pack_register(register: MaskedRegister) -> Packed
     if 16 <= register.kind {
         return Packed::Unfit;
     }
-    let number = layout::placed(register.number as u64, layout::NUMBER);
-    let mask = layout::placed(register.mask as u64, layout::MASK);
-    let kind = layout::placed(register.kind as u64, layout::MASKED_KIND);
+    let number = placed(register.number as u64, bits::NUMBER);
+    let mask = placed(register.mask as u64, bits::MASK);
+    let kind = placed(register.kind as u64, bits::MASKED_KIND);
     Packed::Field(number + mask + kind)
 }
 
@@ -198,9 +200,9 @@ fn pack_values(
 fn source_low(number: u16, offset: u8, swizzle: u8) -> u64
     ensures { λ r. ⌜ (r ≡ sourceLow number offset swizzle) × (r < 2 ^ 32) ⌝ }
 {
-    let n = layout::placed(number as u64, layout::NUMBER);
-    let o = layout::placed(offset as u64, layout::OFFSET);
-    let s = layout::placed(swizzle as u64, layout::SWIZZLE);
+    let n = placed(number as u64, bits::NUMBER);
+    let o = placed(offset as u64, bits::OFFSET);
+    let s = placed(swizzle as u64, bits::SWIZZLE);
     n + o + s
 }
 
@@ -208,10 +210,10 @@ fn source_high(kind: u8, index_kind: u8, component: u8, indirect: u64) -> u64
     requires { ⌜ SourceHigh kind «index_kind» component indirect ⌝ }
     ensures { λ r. ⌜ (r ≡ sourceHigh kind «index_kind» component indirect) × (r + 2 ^ 32 ≤ 2 ^ 64) ⌝ }
 {
-    let t = layout::placed(kind as u64, layout::KIND);
-    let i = layout::placed(index_kind as u64, layout::INDEX_KIND);
-    let q = layout::placed(component as u64, layout::COMPONENT);
-    let d = layout::placed(indirect, layout::INDIRECT);
+    let t = placed(kind as u64, bits::KIND);
+    let i = placed(index_kind as u64, bits::INDEX_KIND);
+    let q = placed(component as u64, bits::COMPONENT);
+    let d = placed(indirect, bits::INDIRECT);
     t + i + q + d
 }
 
@@ -252,9 +254,9 @@ fn sampler_low(number: u16, bias: u8, kind: u8) -> u64
     requires { ⌜ kind < 16 ⌝ }
     ensures { λ r. ⌜ (r ≡ samplerLow number bias kind) × (r < 2 ^ 36) ⌝ }
 {
-    let n = layout::placed(number as u64, layout::NUMBER);
-    let b = layout::placed(bias as u64, layout::BIAS);
-    let t = layout::placed(kind as u64, layout::KIND);
+    let n = placed(number as u64, bits::NUMBER);
+    let b = placed(bias as u64, bits::BIAS);
+    let t = placed(kind as u64, bits::KIND);
     n + b + t
 }
 
@@ -262,12 +264,22 @@ fn sampler_high(dimension: u8, special: u8, wrap: u8, mipmap: u8, filter: u8) ->
     requires { ⌜ SamplerHigh dimension special wrap mipmap filter ⌝ }
     ensures { λ r. ⌜ (r ≡ samplerHigh dimension special wrap mipmap filter) × (r + 2 ^ 36 ≤ 2 ^ 64) ⌝ }
 {
-    let d = layout::placed(dimension as u64, layout::DIMENSION);
-    let s = layout::placed(special as u64, layout::SPECIAL);
-    let w = layout::placed(wrap as u64, layout::WRAP);
-    let m = layout::placed(mipmap as u64, layout::MIPMAP);
-    let f = layout::placed(filter as u64, layout::FILTER);
+    let d = placed(dimension as u64, bits::DIMENSION);
+    let s = placed(special as u64, bits::SPECIAL);
+    let w = placed(wrap as u64, bits::WRAP);
+    let m = placed(mipmap as u64, bits::MIPMAP);
+    let f = placed(filter as u64, bits::FILTER);
     d + s + w + m + f
+}
+
+// The field that has a value at some bits and is 0 elsewhere.
+fn placed(value: u64, at: Bits) -> u64
+    requires { ⌜ at .first + at .width ≤ 64 ⌝ }
+    requires { ⌜ at .first < 64 ⌝ }
+    requires { ⌜ value < 2 ^ (at .width) ⌝ }
+    ensures { λ r. ⌜ r ≡ placedAt (at .first) value ⌝ }
+{
+    value << at.first
 }
 
 // A signed byte as the byte that says it, by two's complement.

@@ -6,7 +6,7 @@ use mathlib.Core.List.{List}
 use mathlib.Core.Path.{_≡_, _∙_, sym}
 use lib.ListN.{length}
 use Rattle.bytecode.specs.Decode.{refusal}
-use Rattle.bytecode.specs.declared.record.Token.{Token}
+use Rattle.layout.specs.declared.record.Token.{Token}
 use Rattle.listing.specs.Line.{lineOf, isNameable, lineFault, lineAnswer, afterLine, Lists}
 use Rattle.listing.specs.Printing.{Prints}
 use Rattle.listing.specs.declared.answers.Printed.{Printed}

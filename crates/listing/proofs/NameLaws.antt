@@ -7,7 +7,7 @@ use mathlib.Core.Path.{_≡_, refl, subst, sym}
 use native.Mathlib.Omega.{arith}
 use lib.Dec.{T, eqb, ltb, eqb→eq, ltb→lt}
 use lib.ListN.{length, take, drop}
-use Rattle.bytecode.specs.Opcodes.{isIn, isListed, firstOpcodes, addedOpcodes}
+use Rattle.layout.specs.Opcodes.{isIn, isListed, firstOpcodes, addedOpcodes}
 use Rattle.laws.specs.Tests.{every}
 use Rattle.laws.proofs.Every.{both-left, both-right, below}
 use Rattle.listing.specs.Text.{ascii}

@@ -6,20 +6,20 @@ use mathlib.Core.Path.{_≡_, refl, _∙_, sym, ap}
 use native.Mathlib.Omega.{arith}
 use lib.Dec.{leb, eqb}
 use borrow.Author.Tests.{leb-true, eqb-true}
-use Rattle.bytecode.specs.Opcodes.{isListed, rowOf, shapeOf, shapeOfRow}
+use Rattle.layout.specs.Opcodes.{isListed, rowOf, shapeOf, shapeOfRow}
 use Rattle.bytecode.specs.Encode.{isEncodable, operandFits}
-use Rattle.bytecode.specs.declared.opcodes.OperandShape.{OperandShape}
-use Rattle.bytecode.specs.declared.opcodes.OperandShape.the-variants.{Unused as NoField, Source as SourceField, Sampler as SamplerField}
-use Rattle.bytecode.specs.declared.opcodes.Shape.{Shape}
-use Rattle.bytecode.specs.declared.record.Destination.{Destination}
-use Rattle.bytecode.specs.declared.record.Destination.the-variants.{Masked}
-use Rattle.bytecode.specs.declared.record.MaskedRegister.{MaskedRegister}
-use Rattle.bytecode.specs.declared.record.DirectSource.{DirectSource}
-use Rattle.bytecode.specs.declared.record.IndexedSource.{IndexedSource}
-use Rattle.bytecode.specs.declared.record.Sampler.{Sampler}
-use Rattle.bytecode.specs.declared.record.Operand.{Operand}
-use Rattle.bytecode.specs.declared.record.Operand.the-variants.{Unused as NoOperand, Direct, Indexed, Sampler as Sampled}
-use Rattle.bytecode.specs.declared.record.Token.{Token}
+use Rattle.layout.specs.declared.opcodes.OperandShape.{OperandShape}
+use Rattle.layout.specs.declared.opcodes.OperandShape.the-variants.{Unused as NoField, Source as SourceField, Sampler as SamplerField}
+use Rattle.layout.specs.declared.opcodes.Shape.{Shape}
+use Rattle.layout.specs.declared.record.Destination.{Destination}
+use Rattle.layout.specs.declared.record.Destination.the-variants.{Masked}
+use Rattle.layout.specs.declared.record.MaskedRegister.{MaskedRegister}
+use Rattle.layout.specs.declared.record.DirectSource.{DirectSource}
+use Rattle.layout.specs.declared.record.IndexedSource.{IndexedSource}
+use Rattle.layout.specs.declared.record.Sampler.{Sampler}
+use Rattle.layout.specs.declared.record.Operand.{Operand}
+use Rattle.layout.specs.declared.record.Operand.the-variants.{Unused as NoOperand, Direct, Indexed, Sampler as Sampled}
+use Rattle.layout.specs.declared.record.Token.{Token}
 use Rattle.listing.proofs.Bytes.{both}
 use Rattle.listing.specs.Line.{hasName, destinationHasNames, operandHasNames, samplerHasNames, isNameable}
 use Rattle.listing.specs.Writers.{operandRoom, Nameable}

@@ -8,14 +8,14 @@ use lib.ListN.{replicate}
 use Rattle.listing.specs.Text.{ascii, when}
 use Rattle.listing.specs.Decimal.{decimal, signedDecimal}
 use Rattle.listing.specs.Names.{registerName, dimensionName, mipmapName, wrapName, filterName}
-use Rattle.bytecode.specs.declared.record.MaskedRegister.{MaskedRegister}
-use Rattle.bytecode.specs.declared.record.Destination.{Destination}
-use Rattle.bytecode.specs.declared.record.Destination.the-variants.{Unused as NoDestination, Masked}
-use Rattle.bytecode.specs.declared.record.DirectSource.{DirectSource}
-use Rattle.bytecode.specs.declared.record.IndexedSource.{IndexedSource}
-use Rattle.bytecode.specs.declared.record.Sampler.{Sampler}
-use Rattle.bytecode.specs.declared.record.Operand.{Operand}
-use Rattle.bytecode.specs.declared.record.Operand.the-variants.{Unused as NoOperand, Direct, Indexed, Sampler as Sampled}
+use Rattle.layout.specs.declared.record.MaskedRegister.{MaskedRegister}
+use Rattle.layout.specs.declared.record.Destination.{Destination}
+use Rattle.layout.specs.declared.record.Destination.the-variants.{Unused as NoDestination, Masked}
+use Rattle.layout.specs.declared.record.DirectSource.{DirectSource}
+use Rattle.layout.specs.declared.record.IndexedSource.{IndexedSource}
+use Rattle.layout.specs.declared.record.Sampler.{Sampler}
+use Rattle.layout.specs.declared.record.Operand.{Operand}
+use Rattle.layout.specs.declared.record.Operand.the-variants.{Unused as NoOperand, Direct, Indexed, Sampler as Sampled}
 
 -- "Two spaces per depth"
 abbrev pub indentation : ℕ → List ℕ

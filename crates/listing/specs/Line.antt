@@ -10,12 +10,12 @@ use Rattle.listing.specs.Names.{opcodeName}
 use Rattle.listing.specs.Items.{indentation, destinationText, operandText}
 use Rattle.bytecode.specs.Encode.{isEncodable}
 use Rattle.bytecode.specs.Decode.{refusal}
-use Rattle.bytecode.specs.declared.record.Destination.{Destination}
-use Rattle.bytecode.specs.declared.record.Destination.the-variants.{Unused as NoDestination, Masked}
-use Rattle.bytecode.specs.declared.record.Sampler.{Sampler}
-use Rattle.bytecode.specs.declared.record.Operand.{Operand}
-use Rattle.bytecode.specs.declared.record.Operand.the-variants.{Unused as NoOperand, Direct, Indexed, Sampler as Sampled}
-use Rattle.bytecode.specs.declared.record.Token.{Token}
+use Rattle.layout.specs.declared.record.Destination.{Destination}
+use Rattle.layout.specs.declared.record.Destination.the-variants.{Unused as NoDestination, Masked}
+use Rattle.layout.specs.declared.record.Sampler.{Sampler}
+use Rattle.layout.specs.declared.record.Operand.{Operand}
+use Rattle.layout.specs.declared.record.Operand.the-variants.{Unused as NoOperand, Direct, Indexed, Sampler as Sampled}
+use Rattle.layout.specs.declared.record.Token.{Token}
 use Rattle.bytecode.specs.declared.answers.Refusal.{Refusal}
 use Rattle.listing.specs.Printing.{printedNumbers, printFault, printAnswer, afterPrint}
 use Rattle.listing.specs.declared.answers.Printed.{Printed}

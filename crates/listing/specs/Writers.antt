@@ -5,10 +5,10 @@ use mathlib.Core.List.{List, [], _∷_, _++_}
 use mathlib.Core.Path.{_≡_}
 use lib.Dec.{eqb, leb}
 use lib.ListN.{take, drop}
-use Rattle.bytecode.specs.Opcodes.{isListed}
-use Rattle.bytecode.specs.declared.record.Operand.{Operand}
-use Rattle.bytecode.specs.declared.record.Operand.the-variants.{Unused as NoOperand, Direct, Indexed, Sampler as Sampled}
-use Rattle.bytecode.specs.declared.record.Token.{Token}
+use Rattle.layout.specs.Opcodes.{isListed}
+use Rattle.layout.specs.declared.record.Operand.{Operand}
+use Rattle.layout.specs.declared.record.Operand.the-variants.{Unused as NoOperand, Direct, Indexed, Sampler as Sampled}
+use Rattle.layout.specs.declared.record.Token.{Token}
 use Rattle.listing.specs.Text.{when}
 use Rattle.listing.specs.Decimal.{digit}
 use Rattle.listing.specs.Line.{destinationHasNames, operandHasNames}

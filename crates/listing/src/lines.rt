@@ -10,7 +10,7 @@ use crate::names;
 use crate::operands;
 use crate::printing;
 use crate::text;
-use bytecode::record::Token;
+use layout::record::Token;
 
 // A stage is 0, vertex, or 1, fragment; a depth is 0 to 16.
 pub fn line(token: Token, stage: u8, depth: u8, out: &mut [u8]) -> Printed

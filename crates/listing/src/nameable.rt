@@ -1,10 +1,10 @@
 // Which records have a line.
 ghost use mathlib.Core.Path.{_≡_};
 ghost use Rattle.listing.specs.Line.{isNameable, destinationHasNames, samplerHasNames, operandHasNames};
-use bytecode::record::Destination;
-use bytecode::record::Operand;
-use bytecode::record::Sampler;
-use bytecode::record::Token;
+use layout::record::Destination;
+use layout::record::Operand;
+use layout::record::Sampler;
+use layout::record::Token;
 
 pub(crate) fn nameable(token: Token, stage: u8, depth: u8) -> bool
     ensures { λ r. ⌜ r ≡ isNameable token stage depth ⌝ }

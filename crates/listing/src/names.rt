@@ -3,7 +3,7 @@ ghost use mathlib.Core.Bool.{true};
 ghost use mathlib.Core.Path.{_≡_};
 ghost use Prim.Native.Nat.{_+_, _≤_};
 ghost use lib.ListN.{length};
-ghost use Rattle.bytecode.specs.Opcodes.{isListed};
+ghost use Rattle.layout.specs.Opcodes.{isListed};
 ghost use Rattle.listing.specs.Names.{opcodeName, registerName};
 ghost use Rattle.listing.specs.Writers.{Appends, nameRow, nameLetters};
 use crate::text;

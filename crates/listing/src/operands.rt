@@ -11,12 +11,12 @@ use crate::items;
 use crate::names;
 use crate::settings;
 use crate::text;
-use bytecode::record::Destination;
-use bytecode::record::DirectSource;
-use bytecode::record::IndexedSource;
-use bytecode::record::MaskedRegister;
-use bytecode::record::Operand;
-use bytecode::record::Sampler;
+use layout::record::Destination;
+use layout::record::DirectSource;
+use layout::record::IndexedSource;
+use layout::record::MaskedRegister;
+use layout::record::Operand;
+use layout::record::Sampler;
 
 pub(crate) fn put_destination(
     out: &mut [u8],

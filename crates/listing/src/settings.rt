@@ -6,7 +6,7 @@ ghost use Rattle.listing.specs.Names.{mipmapName};
 ghost use Rattle.listing.specs.Items.{settingsText, textureText, samplingText, biasText};
 use crate::decimal;
 use crate::text;
-use bytecode::record::Sampler;
+use layout::record::Sampler;
 
 pub(crate) fn put_settings(out: &mut [u8], at: usize, s: Sampler) -> usize
     requires { ⌜ at + 44 ≤ length (now out) ⌝ }

@@ -4,10 +4,10 @@ use Prim.Native.Nat.{ℕ}
 use mathlib.Core.Bool.{Bool, true, false, cond}
 use mathlib.Core.Path.{_≡_, refl}
 use lib.Dec.{eqb}
-use Rattle.bytecode.specs.Layout as layout
-use Rattle.bytecode.specs.Layout.{valueOf}
-use Rattle.bytecode.specs.Records.{directOf, indexedOf, sourceOf}
-use Rattle.bytecode.specs.declared.record.Operand.the-variants.{Direct, Indexed}
+use Rattle.layout.specs.Layout as layout
+use Rattle.layout.specs.Layout.{valueOf}
+use Rattle.layout.specs.Records.{directOf, indexedOf, sourceOf}
+use Rattle.layout.specs.declared.record.Operand.the-variants.{Direct, Indexed}
 use Rattle.paths.specs.Reads.{dimensionOf}
 
 -- a source has no dimension

@@ -11,10 +11,10 @@ use lib.Dec.{eqb}
 use borrow.Author.Tests.{eqb-true, eq-eqb, ne-eqb}
 use Rattle.laws.specs.Tests.{every}
 use Rattle.laws.proofs.Every.{below}
-use Rattle.bytecode.specs.Opcodes.{isIn, kil, tex}
-use Rattle.bytecode.specs.declared.record.Operand.{Operand}
-use Rattle.bytecode.specs.declared.record.Operand.the-variants.{Unused as NoOperand, Direct, Indexed, Sampler as Sampled}
-use Rattle.bytecode.specs.declared.record.Token.{Token}
+use Rattle.layout.specs.Opcodes.{isIn, kil, tex}
+use Rattle.layout.specs.declared.record.Operand.{Operand}
+use Rattle.layout.specs.declared.record.Operand.the-variants.{Unused as NoOperand, Direct, Indexed, Sampler as Sampled}
+use Rattle.layout.specs.declared.record.Token.{Token}
 use Rattle.paths.specs.Check.{lacks}
 use Rattle.paths.specs.Reads.{keep, those, firstFew, bitOf, maskComponents, selector, named, m33, m34, m44}
 use Rattle.paths.specs.Reads.{byThree1, byThree2, byFour1, byFour2, selectors1, selectors2, components2, rowCount2}

@@ -8,7 +8,7 @@ use native.Mathlib.Decide.{decLt}
 use native.Mathlib.Omega.{arith}
 use lib.Dec.{T, eqb, ltb, ltb→lt}
 use borrow.Author.Tests.{lt-ltb, le-ltb, ne-eqb}
-use Rattle.bytecode.specs.Opcodes.{isIn, kil, tex}
+use Rattle.layout.specs.Opcodes.{isIn, kil, tex}
 use Rattle.laws.specs.Tests.{every}
 use Rattle.laws.proofs.Every.{below, both-left, both-right}
 use Rattle.paths.specs.Reads.{bitOf, byThree1, byThree2, byFour1, byFour2, m33, m34, m44, rowCount2}

@@ -9,8 +9,8 @@ use lib.Bits.{bitAnd}
 use lib.Dec.{eqb, ltb}
 use lib.Pow.{field}
 use borrow.Author.Tests.{lt-ltb, le-ltb, eqb-true, ne-eqb}
-use Rattle.bytecode.specs.declared.record.Destination.the-variants.{Masked}
-use Rattle.bytecode.specs.declared.record.MaskedRegister.{MaskedRegister}
+use Rattle.layout.specs.declared.record.Destination.the-variants.{Masked}
+use Rattle.layout.specs.declared.record.MaskedRegister.{MaskedRegister}
 use Rattle.paths.specs.Unwritten.{has, adds}
 use Rattle.paths.specs.Reads.{bitOf, maskComponents, componentsOf, writesInto, temporaries}
 use Rattle.paths.specs.Written.{halfOf, componentSet, joinOf, marked, markOf}

@@ -4,12 +4,12 @@ use Prim.Native.Nat.{ℕ, zero, suc, _+_, _*_, _/_, _%_, _^_}
 use mathlib.Core.Bool.{Bool, true, false, cond}
 use mathlib.Core.List.{List, [], _∷_, _++_, map}
 use lib.Dec.{ltb, eqb}
-use Rattle.bytecode.specs.Opcodes.{isIn, kil, tex, openers}
-use Rattle.bytecode.specs.declared.record.Destination.{Destination}
-use Rattle.bytecode.specs.declared.record.Destination.the-variants.{Unused as NoDestination, Masked}
-use Rattle.bytecode.specs.declared.record.Operand.{Operand}
-use Rattle.bytecode.specs.declared.record.Operand.the-variants.{Unused as NoOperand, Direct, Indexed, Sampler as Sampled}
-use Rattle.bytecode.specs.declared.record.Token.{Token}
+use Rattle.layout.specs.Opcodes.{isIn, kil, tex, openers}
+use Rattle.layout.specs.declared.record.Destination.{Destination}
+use Rattle.layout.specs.declared.record.Destination.the-variants.{Unused as NoDestination, Masked}
+use Rattle.layout.specs.declared.record.Operand.{Operand}
+use Rattle.layout.specs.declared.record.Operand.the-variants.{Unused as NoOperand, Direct, Indexed, Sampler as Sampled}
+use Rattle.layout.specs.declared.record.Token.{Token}
 
 -- a component of a register: the register's type (0 to 6) and number, and the component, 0 for x to 3 for w
 pub record Component : Type 0 where

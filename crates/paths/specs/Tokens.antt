@@ -4,8 +4,8 @@ use mathlib.Core.Bool.{cond}
 use mathlib.Core.List.{List}
 use mathlib.Core.Option.{Option}
 use lib.Dec.{eqb}
-use Rattle.bytecode.specs.Opcodes.{isIn, openers}
-use Rattle.bytecode.specs.declared.record.Token.{Token}
+use Rattle.layout.specs.Opcodes.{isIn, openers}
+use Rattle.layout.specs.declared.record.Token.{Token}
 use Rattle.paths.specs.Paths.{Flow, plain, opener, els, eif, Source, source1, source2, TokenFault, PathToken}
 use Rattle.paths.specs.Reads.{Component, reads1, reads2, writes, temporaries}
 

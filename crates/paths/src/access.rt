@@ -1,16 +1,16 @@
 // Whether a token reads what is not written, from its fields and what its opcode holds.
 ghost use mathlib.Core.Path.{_≡_};
 ghost use Prim.Native.Nat.{_*_, _^_, _<_};
-ghost use Rattle.bytecode.specs.Records.{directOf, sourceOf, destinationOf, operandOf, tokenOf};
+ghost use Rattle.layout.specs.Records.{directOf, sourceOf, destinationOf, operandOf, tokenOf};
 ghost use Rattle.paths.specs.Reads.{maskOf, dimensionOf, rowCount2};
 ghost use Rattle.paths.specs.Access.{amongOf, namedSet, coordinateSet, selectorSet1, selectorSet2, readSet2};
 ghost use Rattle.paths.specs.Access.{lacksAccess, directAccess, indexAccess, accessThrough, components1Of, components2Of, access1Of, access2Of};
 use crate::written;
 use crate::written::Written;
-use bytecode::fields::Fields;
-use bytecode::opcodes::OperandShape;
-use bytecode::opcodes::Shape;
-use bytecode::record::IndexedSource;
+use layout::fields::Fields;
+use layout::opcodes::OperandShape;
+use layout::opcodes::Shape;
+use layout::record::IndexedSource;
 
 const M33: u32 = 0x17;
 
@@ -57,8 +57,8 @@ pub fn reads_unwritten1(current: Written, shape: Shape, f: Fields) -> bool
 fn source_unwritten1(current: Written, shape: Shape, f: Fields) -> bool
     ensures { λ r. ⌜ r ≡ lacksAccess current (accessThrough 1 (components1Of (tokenOf shape f)) (sourceOf (f .source1))) ⌝ }
 {
-    if bytecode::is_indexed(f.source1) {
-        return index_unwritten(current, bytecode::unpack_indexed(f.source1));
+    if layout::is_indexed(f.source1) {
+        return index_unwritten(current, layout::unpack_indexed(f.source1));
     }
     direct_unwritten1(current, shape, f)
 }
@@ -67,7 +67,7 @@ fn source_unwritten1(current: Written, shape: Shape, f: Fields) -> bool
 fn direct_unwritten1(current: Written, shape: Shape, f: Fields) -> bool
     ensures { λ r. ⌜ r ≡ lacksAccess current (directAccess 1 (components1Of (tokenOf shape f)) (directOf (f .source1))) ⌝ }
 {
-    let source = bytecode::unpack_direct(f.source1);
+    let source = layout::unpack_direct(f.source1);
     if source.kind != 2 {
         return false;
     }
@@ -96,8 +96,8 @@ pub fn reads_unwritten2(current: Written, shape: Shape, f: Fields) -> bool
 fn source_unwritten2(current: Written, shape: Shape, f: Fields) -> bool
     ensures { λ r. ⌜ r ≡ lacksAccess current (accessThrough (rowCount2 (f .opcode)) (components2Of (tokenOf shape f)) (sourceOf (f .source2))) ⌝ }
 {
-    if bytecode::is_indexed(f.source2) {
-        return index_unwritten(current, bytecode::unpack_indexed(f.source2));
+    if layout::is_indexed(f.source2) {
+        return index_unwritten(current, layout::unpack_indexed(f.source2));
     }
     direct_unwritten2(current, shape, f)
 }
@@ -105,7 +105,7 @@ fn source_unwritten2(current: Written, shape: Shape, f: Fields) -> bool
 fn direct_unwritten2(current: Written, shape: Shape, f: Fields) -> bool
     ensures { λ r. ⌜ r ≡ lacksAccess current (directAccess (rowCount2 (f .opcode)) (components2Of (tokenOf shape f)) (directOf (f .source2))) ⌝ }
 {
-    let source = bytecode::unpack_direct(f.source2);
+    let source = layout::unpack_direct(f.source2);
     if source.kind != 2 {
         return false;
     }
@@ -133,7 +133,7 @@ fn mask_of(used: bool, field: u64) -> u8
     ensures { λ r. ⌜ r ≡ maskOf (destinationOf used field) ⌝ }
 {
     if used {
-        let register = bytecode::unpack_register(field);
+        let register = layout::unpack_register(field);
         return register.mask;
     }
     0
@@ -146,7 +146,7 @@ fn dimension_of(shape: OperandShape, field: u64) -> u8
         OperandShape::Unused => 0,
         OperandShape::Source => 0,
         OperandShape::Sampler => {
-            let sampler = bytecode::unpack_sampler(field);
+            let sampler = layout::unpack_sampler(field);
             sampler.dimension
         }
     }

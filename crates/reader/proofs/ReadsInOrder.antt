@@ -11,7 +11,7 @@ use lib.Dec.{ltb}
 use lib.ListN.{length, length-take, length-drop}
 use borrow.Author.Tests.{ltb-true}
 use Rattle.bytecode.specs.Decode.{refusal, noRefusal, decodeOf}
-use Rattle.bytecode.specs.declared.record.Token.{Token}
+use Rattle.layout.specs.declared.record.Token.{Token}
 use Rattle.bytecode.specs.declared.answers.Refusal.{Refusal}
 use Rattle.bytecode.specs.declared.answers.Decoded.the-variants.{Token as Accepted, Refused}
 use Rattle.bytecode.proofs.DecodeLaws.{accepted}

@@ -9,17 +9,17 @@ use native.Mathlib.Omega.{arith}
 use lib.Dec.{eqb, ltb, leb}
 use lib.ListN.{length}
 use borrow.Author.Tests.{ne-eqb, le-leb, ltb-false, leb-false, eqb-true, not-false}
-use Rattle.bytecode.specs.Opcodes.{shapeOf}
+use Rattle.layout.specs.Opcodes.{shapeOf}
 use Rattle.bytecode.specs.Fields.{fieldsOf}
-use Rattle.bytecode.specs.Records.{destinationOf, operandOf, tokenOf}
+use Rattle.layout.specs.Records.{destinationOf, operandOf, tokenOf}
 use Rattle.bytecode.specs.Encode.{destinationFits, operandFits, isEncodable}
-use Rattle.bytecode.specs.declared.opcodes.OperandShape.{OperandShape}
-use Rattle.bytecode.specs.declared.opcodes.OperandShape.the-variants.{Unused as NoField, Source as SourceField, Sampler as SamplerField}
-use Rattle.bytecode.specs.declared.record.Destination.{Destination}
-use Rattle.bytecode.specs.declared.record.Destination.the-variants.{Unused as NoDestination, Masked}
-use Rattle.bytecode.specs.declared.record.Operand.{Operand}
-use Rattle.bytecode.specs.declared.record.Operand.the-variants.{Unused as NoOperand, Direct, Indexed, Sampler as Sampled}
-use Rattle.bytecode.specs.declared.record.Sampler.{Sampler}
+use Rattle.layout.specs.declared.opcodes.OperandShape.{OperandShape}
+use Rattle.layout.specs.declared.opcodes.OperandShape.the-variants.{Unused as NoField, Source as SourceField, Sampler as SamplerField}
+use Rattle.layout.specs.declared.record.Destination.{Destination}
+use Rattle.layout.specs.declared.record.Destination.the-variants.{Unused as NoDestination, Masked}
+use Rattle.layout.specs.declared.record.Operand.{Operand}
+use Rattle.layout.specs.declared.record.Operand.the-variants.{Unused as NoOperand, Direct, Indexed, Sampler as Sampled}
+use Rattle.layout.specs.declared.record.Sampler.{Sampler}
 use Rattle.bytecode.proofs.RegisterAgain.{register-fits}
 use Rattle.bytecode.proofs.SourceAgain.{source-fits}
 use Rattle.bytecode.proofs.SamplerAgain.{sampler-fits}

@@ -4,8 +4,8 @@ use Prim.Native.Nat.{ℕ}
 use mathlib.Core.List.{List, [], _∷_, _++_}
 use mathlib.Core.Path.{_≡_, refl}
 use lib.ListN.{length, replicate}
-use Rattle.bytecode.specs.Opcodes.{rowOf, shapeOfRow}
-use Rattle.bytecode.specs.Records.{signed, tokenOf}
+use Rattle.layout.specs.Opcodes.{rowOf, shapeOfRow}
+use Rattle.layout.specs.Records.{signed, tokenOf}
 use Rattle.bytecode.specs.Decode.{unusedPart, undefinedPart}
 use Rattle.registers.specs.Counts.{countOf}
 use Rattle.registers.specs.Limits.{limitOf}

@@ -9,7 +9,7 @@ use native.Mathlib.Omega.{arith}
 use lib.ListN.{length, take, drop, length-drop}
 use lib.Seq.{length-take-le}
 use Rattle.bytecode.specs.declared.answers.Refusal.{Refusal}
-use Rattle.bytecode.specs.declared.record.Token.{Token}
+use Rattle.layout.specs.declared.record.Token.{Token}
 use Rattle.listing.specs.Line.{lineOf, isNameable, Lists}
 use Rattle.listing.specs.Writers.{Appends}
 use Rattle.listing.specs.declared.answers.Printed.{Printed}

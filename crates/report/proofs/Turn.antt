@@ -10,9 +10,9 @@ use lib.ListN.{take}
 use borrow.Author.Tests.{leb-true, lt-ltb, le-ltb, ne-eqb}
 use Rattle.bytecode.specs.Decode.{decodeOf}
 use Rattle.bytecode.specs.Encode.{isEncodable}
-use Rattle.bytecode.specs.Opcodes.{isIn, openers}
+use Rattle.layout.specs.Opcodes.{isIn, openers}
 use Rattle.bytecode.specs.declared.answers.Decoded.the-variants.{Token as Accepted}
-use Rattle.bytecode.specs.declared.record.Token.{Token}
+use Rattle.layout.specs.declared.record.Token.{Token}
 use Rattle.laws.proofs.Every.{left, right}
 use Rattle.paths.specs.Paths.{Flow, plain, opener, els, eif}
 use Rattle.paths.specs.Tokens.{flowOf}

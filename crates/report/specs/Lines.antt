@@ -5,7 +5,7 @@ use mathlib.Core.List.{List, [], _++_}
 use mathlib.Core.Path.{_≡_}
 use Rattle.bytecode.specs.Decode.{decodeOf}
 use Rattle.bytecode.specs.declared.answers.Decoded.the-variants.{Token as Accepted}
-use Rattle.bytecode.specs.declared.record.Token.{Token}
+use Rattle.layout.specs.declared.record.Token.{Token}
 use Rattle.paths.specs.Paths.{Flow}
 use Rattle.paths.specs.Tokens.{flowOf}
 use Rattle.listing.specs.Line.{lineOf, isNameable}

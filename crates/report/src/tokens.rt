@@ -13,9 +13,9 @@ ghost use Rattle.verifier.specs.Order.{tokenAt, recordOf};
 ghost use Rattle.report.specs.Depth.{shownDepth, openedAfter};
 ghost use Rattle.report.specs.Lines.{linesFrom, Listable};
 use bytecode::answers::Decoded;
-use bytecode::record::Destination;
-use bytecode::record::Operand;
-use bytecode::record::Token;
+use layout::record::Destination;
+use layout::record::Operand;
+use layout::record::Token;
 use listing::answers::Printed;
 
 // A line for each token, none of which has more than 128 bytes.

@@ -7,7 +7,7 @@ use native.Mathlib.Decide.{decLt}
 use native.Mathlib.Omega.{arith}
 use lib.Dec.{leb, ltb}
 use borrow.Author.Tests.{le-leb, le-ltb, ne-eqb}
-use Rattle.bytecode.specs.Opcodes.{isIn, addedOpcodes}
+use Rattle.layout.specs.Opcodes.{isIn, addedOpcodes}
 use Rattle.laws.proofs.Every.{below, same→eq}
 
 pub added : (o : ℕ) → (leb 0x1a o && ltb o 0x22) ≡ isIn o addedOpcodes

@@ -2,8 +2,8 @@
 -- Assumes nothing.
 use mathlib.Core.List.{List, map, List·Memᴰ, List·Memᴰ·head, List·Memᴰ·tail}
 use mathlib.Core.Path.{_≡_, refl, sym, ap, _∙_}
-use Rattle.bytecode.specs.Opcodes.{rowOf, shapeOfRow}
-use Rattle.bytecode.specs.Records.{tokenOf}
+use Rattle.layout.specs.Opcodes.{rowOf, shapeOfRow}
+use Rattle.layout.specs.Records.{tokenOf}
 use Rattle.bytecode.specs.Decode.{unusedPart, undefinedPart}
 use Rattle.registers.specs.Counts.{countOf}
 use Rattle.registers.specs.Limits.{limitOf}

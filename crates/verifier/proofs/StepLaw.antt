@@ -10,9 +10,9 @@ use native.Mathlib.Omega.{arith}
 use lib.Dec.{eqb, leb, leb→le}
 use borrow.Author.Tests.{leb-false}
 use Rattle.bytecode.specs.Decode.{refusal, noRefusal}
-use Rattle.bytecode.specs.declared.record.Destination.{Destination}
-use Rattle.bytecode.specs.declared.record.Destination.the-variants.{Unused as NoDestination, Masked}
-use Rattle.bytecode.specs.declared.record.Token.{Token}
+use Rattle.layout.specs.declared.record.Destination.{Destination}
+use Rattle.layout.specs.declared.record.Destination.the-variants.{Unused as NoDestination, Masked}
+use Rattle.layout.specs.declared.record.Token.{Token}
 use Rattle.registers.specs.Counts.{countOf}
 use Rattle.registers.specs.Uses.{isWritable}
 use Rattle.registers.proofs.Outside.{outside-stage, outside-edition}

@@ -13,7 +13,7 @@ use Rattle.bytecode.specs.Decode.{refusal, decodeOf}
 use Rattle.bytecode.specs.declared.answers.Refusal.{Refusal}
 use Rattle.bytecode.specs.declared.answers.Decoded.{Decoded}
 use Rattle.bytecode.specs.declared.answers.Decoded.the-variants.{Token as Accepted, Refused}
-use Rattle.bytecode.specs.declared.record.Token.{Token}
+use Rattle.layout.specs.declared.record.Token.{Token}
 use Rattle.bytecode.proofs.DecodeLaws.{was-refused}
 use Rattle.registers.specs.Counts.{countOf}
 use Rattle.paths.specs.Paths.{TokenFault, PathToken}

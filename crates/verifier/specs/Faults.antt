@@ -5,7 +5,7 @@ use mathlib.Core.Option.{Option, none, some}
 use lib.Dec.{eqb, ltb}
 use Rattle.bytecode.specs.Decode.{refusal, noRefusal}
 use Rattle.bytecode.specs.declared.answers.Refusal.{Refusal}
-use Rattle.bytecode.specs.declared.record.Token.{Token}
+use Rattle.layout.specs.declared.record.Token.{Token}
 use Rattle.paths.specs.Paths.{TokenFault}
 use Rattle.verifier.specs.Rules.{opcodeTooNew, opcodeNotForStage, selectorsDiffer, matrixSwizzled}
 use Rattle.verifier.specs.Profile.{countIn}

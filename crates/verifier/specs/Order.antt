@@ -6,13 +6,13 @@ use mathlib.Core.List.{List, [], _∷_, _++_}
 use mathlib.Core.Option.{Option, none, some}
 use lib.Dec.{eqb}
 use lib.ListN.{take, drop}
-use Rattle.bytecode.specs.Opcodes.{shapeOf}
+use Rattle.layout.specs.Opcodes.{shapeOf}
 use Rattle.bytecode.specs.Fields.{fieldsOf}
-use Rattle.bytecode.specs.Records.{tokenOf}
+use Rattle.layout.specs.Records.{tokenOf}
 use Rattle.bytecode.specs.Decode.{unusedPart, undefinedPart}
-use Rattle.bytecode.specs.declared.record.Operand.{Operand}
-use Rattle.bytecode.specs.declared.record.Operand.the-variants.{Unused as NoOperand, Direct, Indexed, Sampler as Sampled}
-use Rattle.bytecode.specs.declared.record.Token.{Token}
+use Rattle.layout.specs.declared.record.Operand.{Operand}
+use Rattle.layout.specs.declared.record.Operand.the-variants.{Unused as NoOperand, Direct, Indexed, Sampler as Sampled}
+use Rattle.layout.specs.declared.record.Token.{Token}
 use Rattle.registers.specs.Counts.{countOf}
 use Rattle.paths.specs.Paths.{TokenFault, PathToken}
 use Rattle.paths.specs.Reads.{rowCount2}

@@ -5,14 +5,14 @@ use mathlib.Core.Bool.{Bool, false, not, _&&_, _||_}
 use mathlib.Core.List.{List}
 use lib.Dec.{eqb, ltb, leb}
 use lib.ListN.{length, getD}
-use Rattle.bytecode.specs.Layout.{wordAt}
-use Rattle.bytecode.specs.Opcodes.{isIn, kil, tex, addedOpcodes}
-use Rattle.bytecode.specs.Swizzles.{selector}
-use Rattle.bytecode.specs.declared.record.Destination.{Destination}
-use Rattle.bytecode.specs.declared.record.Destination.the-variants.{Unused as NoDestination, Masked}
-use Rattle.bytecode.specs.declared.record.DirectSource.{DirectSource}
-use Rattle.bytecode.specs.declared.record.IndexedSource.{IndexedSource}
-use Rattle.bytecode.specs.declared.record.Sampler.{Sampler}
+use Rattle.layout.specs.Layout.{wordAt}
+use Rattle.layout.specs.Opcodes.{isIn, kil, tex, addedOpcodes}
+use Rattle.layout.specs.Swizzles.{selector}
+use Rattle.layout.specs.declared.record.Destination.{Destination}
+use Rattle.layout.specs.declared.record.Destination.the-variants.{Unused as NoDestination, Masked}
+use Rattle.layout.specs.declared.record.DirectSource.{DirectSource}
+use Rattle.layout.specs.declared.record.IndexedSource.{IndexedSource}
+use Rattle.layout.specs.declared.record.Sampler.{Sampler}
 use Rattle.registers.specs.Uses.{isReadable, isWritable}
 use Rattle.registers.specs.Limits.{limitOf}
 use Rattle.paths.specs.Reads.{bitOf, nrm, crs, m33, m34, m44}

@@ -6,9 +6,9 @@ use lib.Dec.{eqb, ltb, leb}
 use lib.ListN.{getD, set, replicate}
 use Rattle.paths.specs.Written.{joinOf, markOf}
 use Rattle.paths.specs.declared.written.Written.{Written}
-use Rattle.bytecode.specs.declared.record.MaskedRegister.{MaskedRegister}
-use Rattle.bytecode.specs.declared.record.Destination.{Destination}
-use Rattle.bytecode.specs.declared.record.Destination.the-variants.{Unused as NoDestination, Masked}
+use Rattle.layout.specs.declared.record.MaskedRegister.{MaskedRegister}
+use Rattle.layout.specs.declared.record.Destination.{Destination}
+use Rattle.layout.specs.declared.record.Destination.the-variants.{Unused as NoDestination, Masked}
 use Rattle.verifier.specs.declared.state.Flow.{Flow}
 use Rattle.verifier.specs.declared.state.Flow.the-variants.{Plain, Opener, Els, Eif}
 use Rattle.verifier.specs.declared.state.Branch.{Branch}

@@ -8,7 +8,7 @@ use Rattle.bytecode.specs.Decode.{refusal, noRefusal, decodeOf}
 use Rattle.bytecode.specs.declared.answers.Refusal.{Refusal}
 use Rattle.bytecode.specs.declared.answers.Decoded.{Decoded}
 use Rattle.bytecode.specs.declared.answers.Decoded.the-variants.{Token as Accepted, Refused}
-use Rattle.bytecode.specs.declared.record.Token.{Token}
+use Rattle.layout.specs.declared.record.Token.{Token}
 use Rattle.paths.specs.Access.{lacksAccess, access1Of, access2Of}
 use Rattle.verifier.specs.Faults.{ownFault, undecodedFault}
 use Rattle.verifier.specs.State.{flowOfCode, isMisplaced, metTop, wroteTop, partedTop}

@@ -1,7 +1,7 @@
 // The first of faults 9 to 19 of one token; number 0 where there is none.
 ghost use mathlib.Core.Bool.{cond};
 ghost use mathlib.Core.Path.{_≡_};
-ghost use Rattle.bytecode.specs.Records.{sourceOf, operandOf, tokenOf};
+ghost use Rattle.layout.specs.Records.{sourceOf, operandOf, tokenOf};
 ghost use Rattle.bytecode.specs.Decode.{refusal as refused};
 ghost use Rattle.verifier.specs.Profile.{countIn};
 ghost use Rattle.verifier.specs.Order.{firstFault, sourceRules};
@@ -9,9 +9,9 @@ ghost use Rattle.verifier.specs.Faults.{numberOf, swizzleWrong, sourcesF
 use crate::profile::Profile;
 use crate::rules;
 use bytecode::answers::Refusal;
-use bytecode::fields::Fields;
-use bytecode::opcodes::OperandShape;
-use bytecode::opcodes::Shape;
+use layout::fields::Fields;
+use layout::opcodes::OperandShape;
+use layout::opcodes::Shape;
 use paths::access;
 
 // 10 and 11, then 14 to 19, of a record, from the fields that make it.
@@ -79,7 +79,7 @@ fn operand_fault(
         OperandShape::Unused => 0,
         OperandShape::Source => source_fault(profile, second, opcode, rows, field),
         OperandShape::Sampler => {
-            let wrong = rules::sampler_wrong(profile, bytecode::unpack_sampler(field));
+            let wrong = rules::sampler_wrong(profile, layout::unpack_sampler(field));
             first_of(wrong, 19, false, 0)
         }
     }
@@ -88,12 +88,12 @@ fn operand_fault(
 fn source_fault(profile: Profile, second: bool, opcode: u32, rows: u8, field: u64) -> u8
     ensures { λ r. ⌜ r ≡ numberOf (firstFault (sourceRules (countIn profile) (profile .stage) rows (swizzleWrong second opcode) 0 (sourceOf field))) ⌝ }
 {
-    if bytecode::is_indexed(field) {
-        let s = bytecode::unpack_indexed(field);
+    if layout::is_indexed(field) {
+        let s = layout::unpack_indexed(field);
         let wrong = rules::indexed_wrong(profile, rows, s);
         return first_of(wrong, 16, swizzle_wrong(second, opcode, s.swizzle), 18);
     }
-    let s = bytecode::unpack_direct(field);
+    let s = layout::unpack_direct(field);
     let wrong = rules::direct_wrong(profile, rows, s);
     first_of(wrong, 17, swizzle_wrong(second, opcode, s.swizzle), 18)
 }

@@ -2,7 +2,7 @@
 ghost use mathlib.Core.Path.{_≡_};
 ghost use Prim.Native.Nat.{_+_, _*_, _≤_};
 ghost use lib.ListN.{length};
-ghost use Rattle.bytecode.specs.Layout.{wordAt};
+ghost use Rattle.layout.specs.Layout.{wordAt};
 ghost use Rattle.verifier.specs.Rules.{editionUnknown};
 ghost use Rattle.verifier.specs.Verdict.{headerFault};
 ghost use Rattle.verifier.specs.Header.{restFault};

@@ -1,13 +1,13 @@
 // Rules 10, 11 and 14 to 19 of one token.
 ghost use mathlib.Core.Path.{_≡_};
-ghost use Rattle.bytecode.specs.Records.{destinationOf};
+ghost use Rattle.layout.specs.Records.{destinationOf};
 ghost use Rattle.verifier.specs.Profile.{countIn};
 ghost use Rattle.verifier.specs.Rules.{opcodeTooNew, opcodeNotForStage, isThreeWide, destinationWrong, maskWrong, indexedWrong, directWrong, selectorsDiffer, matrixSwizzled, samplerWrong};
 use crate::profile;
 use crate::profile::Profile;
-use bytecode::record::DirectSource;
-use bytecode::record::IndexedSource;
-use bytecode::record::Sampler;
+use layout::record::DirectSource;
+use layout::record::IndexedSource;
+use layout::record::Sampler;
 
 // 10
 pub(crate) fn opcode_too_new(edition: u32, opcode: u32) -> bool
@@ -28,7 +28,7 @@ pub(crate) fn destination_wrong(profile: Profile, used: bool, field: u64) -> boo
     ensures { λ r. ⌜ r ≡ destinationWrong (countIn profile) (profile .stage) (destinationOf used field) ⌝ }
 {
     if used {
-        let r = bytecode::unpack_register(field);
+        let r = layout::unpack_register(field);
         let writable = registers::is_writable(r.kind, profile.stage);
         let count = profile::count_of(profile, r.kind);
         return !writable | (count <= r.number);
@@ -41,7 +41,7 @@ pub(crate) fn mask_wrong(opcode: u32, used: bool, field: u64) -> bool
     ensures { λ r. ⌜ r ≡ maskWrong opcode (destinationOf used field) ⌝ }
 {
     if used {
-        let r = bytecode::unpack_register(field);
+        let r = layout::unpack_register(field);
         return (r.mask == 0) | (is_three_wide(opcode) & (r.mask / 8 % 2 == 1));
     }
     false

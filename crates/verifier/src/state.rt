@@ -2,9 +2,9 @@
 // way through it. What a token can touch of it goes in by value, and the next comes back.
 ghost use mathlib.Core.Path.{_≡_};
 ghost use Prim.Native.Nat.{_<_};
-ghost use Rattle.bytecode.specs.Records.{destinationOf};
+ghost use Rattle.layout.specs.Records.{destinationOf};
 ghost use Rattle.verifier.specs.State.{flowOfCode, startState, slotOf, slotAfter, isMisplaced, exchanged as exchangedTop, joined as joinedTop, metTop, opened as openedTop, partedTop, marked as markedTop, wroteTop};
-use bytecode::record::MaskedRegister;
+use layout::record::MaskedRegister;
 use paths::written;
 use paths::written::Written;
 
@@ -205,7 +205,7 @@ impl Top {
         ensures { λ r. ⌜ r ≡ wroteTop self (destinationOf used field) ⌝ }
     {
         if used {
-            return self.marked(bytecode::unpack_register(field));
+            return self.marked(layout::unpack_register(field));
         }
         self
     }

@@ -1,15 +1,15 @@
 // One token: the first fault that it has, or the next state.
 ghost use mathlib.Core.Path.{_≡_};
 ghost use lib.ListN.{getD};
-ghost use Rattle.bytecode.specs.Records.{tokenOf};
+ghost use Rattle.layout.specs.Records.{tokenOf};
 ghost use Rattle.verifier.specs.Step.{stepOf, takeOf, followOf};
 use crate::faults;
 use crate::profile::Profile;
 use crate::state;
 use crate::state::Top;
 use bytecode::answers::Refusal;
-use bytecode::fields::Fields;
-use bytecode::opcodes::Shape;
+use layout::fields::Fields;
+use layout::opcodes::Shape;
 use paths::access;
 
 // A fault with number 0 is none, and only then is the top the next one.

@@ -3,9 +3,9 @@
 use mathlib.Core.Bool.{true, false}
 use mathlib.Core.Path.{_≡_, ap}
 use denote.Ref.{now}
-use Rattle.bytecode.specs.Opcodes.{shapeOf}
+use Rattle.layout.specs.Opcodes.{shapeOf}
 use Rattle.bytecode.specs.Fields.{fieldsOf}
-use Rattle.bytecode.specs.Records.{tokenOf}
+use Rattle.layout.specs.Records.{tokenOf}
 use Rattle.bytecode.specs.Decode.{tokenFault, isClean}
 use Rattle.bytecode.proofs.DecodeLaws.{wrong-length, with-fault, no-faults, clean-none, clean-by, not-clean}
 use borrow.Author.Needs.{needs}

@@ -4,7 +4,7 @@ use mathlib.Core.Bool.{true}
 use mathlib.Core.Path.{_≡_}
 use denote.Ref.{now}
 use borrow.Author.Tests.{eq-eqb, ne-eqb}
-use Rattle.bytecode.specs.Opcodes.{shapeOf}
+use Rattle.layout.specs.Opcodes.{shapeOf}
 use Rattle.bytecode.specs.Fields.{fieldsOf}
 use Rattle.bytecode.specs.Decode.{isClean, examinedOf}
 use Rattle.bytecode.proofs.DecodeLaws.{clean-none, clean-by}

@@ -1,7 +1,7 @@
 -- `token_of` meets its contract.
 -- Assumes nothing.
 use borrow.Author.Needs.{needs}
-use Rattle.bytecode.specs.Records.{tokenOf}
+use Rattle.layout.specs.Records.{tokenOf}
 use Rattle.bytecode.proofs.decoding.token_of.Statement.{statement}
 use Rattle.bytecode.proofs.decoding.token_of.Tie as tie
 

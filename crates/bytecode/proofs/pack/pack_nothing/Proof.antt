@@ -3,7 +3,7 @@
 use borrow.Author.Needs.{needs}
 use mathlib.Core.Path.{ap, sym}
 use Rattle.bytecode.specs.Encode.{packed, operandFits, operandField}
-use Rattle.bytecode.specs.declared.opcodes.OperandShape.the-variants.{Unused as NoField}
+use Rattle.layout.specs.declared.opcodes.OperandShape.the-variants.{Unused as NoField}
 use Rattle.bytecode.proofs.pack.pack_nothing.Statement.{statement}
 use Rattle.bytecode.proofs.pack.pack_nothing.Tie as tie
 

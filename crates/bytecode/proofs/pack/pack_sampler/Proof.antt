@@ -3,7 +3,7 @@
 use borrow.Author.Needs.{needs}
 use mathlib.Core.Path.{_∙_, ap, sym}
 use Rattle.bytecode.specs.Encode.{packed, operandFits, operandField}
-use Rattle.bytecode.specs.declared.opcodes.OperandShape.the-variants.{Sampler as SamplerField}
+use Rattle.layout.specs.declared.opcodes.OperandShape.the-variants.{Sampler as SamplerField}
 use Rattle.bytecode.proofs.pack.pack_sampler.Statement.{statement}
 use Rattle.bytecode.proofs.pack.pack_sampler.Tie as tie
 

@@ -1,7 +1,7 @@
 -- `dimension_of` meets its contract.
 -- Assumes nothing.
 use mathlib.Core.Path.{_∙_, sym, ap}
-use Rattle.bytecode.specs.Records.{operandOf}
+use Rattle.layout.specs.Records.{operandOf}
 use Rattle.paths.specs.Reads.{dimensionOf}
 use Rattle.paths.proofs.AccessFields.{source-dimension}
 use borrow.Author.Needs.{needs}

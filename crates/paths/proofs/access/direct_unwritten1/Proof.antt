@@ -1,7 +1,7 @@
 -- `direct_unwritten1` meets its contract.
 -- Assumes nothing.
 use mathlib.Core.Path.{_∙_, ap}
-use Rattle.bytecode.specs.Records.{tokenOf}
+use Rattle.layout.specs.Records.{tokenOf}
 use Rattle.paths.specs.Access.{lacksAccess, directAccess, components1Of}
 use Rattle.paths.proofs.AccessLaws.{temporary, not-temporary, nothing-lacks}
 use borrow.Author.Needs.{needs}

@@ -1,7 +1,7 @@
 -- `direct_unwritten2` meets its contract.
 -- Assumes nothing.
 use mathlib.Core.Path.{_∙_, ap}
-use Rattle.bytecode.specs.Records.{tokenOf}
+use Rattle.layout.specs.Records.{tokenOf}
 use Rattle.paths.specs.Reads.{rowCount2}
 use Rattle.paths.specs.Written.{lacksOf}
 use Rattle.paths.specs.Access.{lacksAccess, directAccess, components2Of}

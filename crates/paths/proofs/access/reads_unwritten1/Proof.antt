@@ -1,7 +1,7 @@
 -- `reads_unwritten1` meets its contract.
 -- Assumes nothing.
 use mathlib.Core.Path.{_∙_, ap, sym}
-use Rattle.bytecode.specs.Records.{operandOf, tokenOf}
+use Rattle.layout.specs.Records.{operandOf, tokenOf}
 use Rattle.paths.specs.Access.{lacksAccess, accessThrough, components1Of}
 use borrow.Author.Needs.{needs}
 use Rattle.paths.proofs.access.reads_unwritten1.Statement.{statement}

@@ -1,7 +1,7 @@
 -- `reads_unwritten2` meets its contract.
 -- Assumes nothing.
 use mathlib.Core.Path.{_∙_, ap, sym}
-use Rattle.bytecode.specs.Records.{operandOf, tokenOf}
+use Rattle.layout.specs.Records.{operandOf, tokenOf}
 use Rattle.paths.specs.Reads.{rowCount2}
 use Rattle.paths.specs.Access.{lacksAccess, accessThrough, components2Of}
 use borrow.Author.Needs.{needs}

@@ -1,8 +1,8 @@
 -- `source_unwritten1` meets its contract.
 -- Assumes nothing.
 use mathlib.Core.Path.{_∙_, ap, sym}
-use Rattle.bytecode.specs.Records.{tokenOf}
-use Rattle.bytecode.proofs.SourceKinds.{indexed-source, direct-source}
+use Rattle.layout.specs.Records.{tokenOf}
+use Rattle.layout.proofs.SourceKinds.{indexed-source, direct-source}
 use Rattle.paths.specs.Access.{lacksAccess, indexAccess, accessThrough, components1Of}
 use borrow.Author.Needs.{needs}
 use Rattle.paths.proofs.access.source_unwritten1.Statement.{statement}

@@ -2,7 +2,7 @@
 -- Assumes nothing.
 use mathlib.Core.Bool.{false}
 use mathlib.Core.Path.{_∙_, ap, sym}
-use Rattle.bytecode.specs.Records.{operandOf}
+use Rattle.layout.specs.Records.{operandOf}
 use Rattle.verifier.specs.Rules.{samplerWrong}
 use Rattle.verifier.specs.Profile.{countIn}
 use Rattle.verifier.specs.Order.{firstFault, sourceRules}

@@ -1,6 +1,6 @@
 -- `own_fault` meets its contract.
 -- Assumes nothing.
-use Rattle.bytecode.specs.Records.{tokenOf}
+use Rattle.layout.specs.Records.{tokenOf}
 use Rattle.verifier.specs.Faults.{ownFault}
 use borrow.Author.Needs.{needs}
 use Rattle.verifier.proofs.faults.own_fault.Statement.{statement}

@@ -1,6 +1,6 @@
 -- `record_fault` meets its contract.
 -- Assumes nothing.
-use Rattle.bytecode.specs.Records.{tokenOf}
+use Rattle.layout.specs.Records.{tokenOf}
 use Rattle.verifier.proofs.FaultLaws.{staged}
 use borrow.Author.Needs.{needs}
 use Rattle.verifier.proofs.faults.record_fault.Statement.{statement}

@@ -1,7 +1,7 @@
 -- `source_fault` meets its contract.
 -- Assumes nothing.
 use mathlib.Core.Path.{_∙_, ap, ap₂, sym}
-use Rattle.bytecode.proofs.SourceKinds.{indexed-source, direct-source}
+use Rattle.layout.proofs.SourceKinds.{indexed-source, direct-source}
 use Rattle.verifier.specs.Rules.{indexedWrong, directWrong}
 use Rattle.verifier.specs.Profile.{countIn}
 use Rattle.verifier.specs.Order.{firstFault, sourceRules}

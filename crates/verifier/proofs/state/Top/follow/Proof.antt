@@ -1,6 +1,6 @@
 -- `follow` meets its contract.
 -- Assumes nothing.
-use Rattle.bytecode.specs.Records.{tokenOf}
+use Rattle.layout.specs.Records.{tokenOf}
 use Rattle.verifier.specs.Step.{followOf}
 use borrow.Author.Needs.{needs}
 use Rattle.verifier.proofs.state.Top.follow.Statement.{statement}

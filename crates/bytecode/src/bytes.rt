@@ -1,0 +1,72 @@
+// The four fields of a token as numbers, read from its bytes and written to them.
+ghost use mathlib.Core.Path.{_≡_};
+ghost use Prim.Native.Nat.{_+_, _*_, _≤_, _<_, _^_};
+ghost use mathlib.Core.List.{_++_};
+ghost use lib.ListN.{length, drop};
+ghost use Rattle.layout.specs.Layout.{wordAt, longAt};
+ghost use Rattle.bytecode.specs.Fields.{fieldsOf, bytesOf, withWord};
+use layout::fields::Fields;
+
+pub(crate) fn read_fields(bytes: &[u8]) -> Fields
+    requires { ⌜ 24 ≤ length (now bytes) ⌝ }
+    ensures { λ r. ⌜ r ≡ fieldsOf (now (bytes .entry)) ⌝ }
+{
+    let opcode = word_at(bytes, 0) as u32;
+    let destination = word_at(bytes, 4);
+    let source1 = long_at(bytes, 8);
+    let source2 = long_at(bytes, 16);
+    Fields {
+        opcode,
+        destination,
+        source1,
+        source2,
+    }
+}
+
+fn long_at(bytes: &[u8], at: usize) -> u64
+    requires { ⌜ at + 8 ≤ length (now bytes) ⌝ }
+    ensures { λ r. ⌜ r ≡ longAt (now (bytes .entry)) at ⌝ }
+{
+    word_at(bytes, at) + 0x1_0000_0000 * word_at(bytes, at + 4)
+}
+
+fn word_at(bytes: &[u8], at: usize) -> u64
+    requires { ⌜ at + 4 ≤ length (now bytes) ⌝ }
+    ensures { λ r. ⌜ (r ≡ wordAt (now (bytes .entry)) at) × (r < 2 ^ 32) ⌝ }
+{
+    word(bytes[at], bytes[at + 1], bytes[at + 2], bytes[at + 3])
+}
+
+fn word(a: u8, b: u8, c: u8, d: u8) -> u64
+    ensures { λ r. ⌜ (r ≡ a + 256 * b + 65536 * c + 16777216 * d) × (r < 2 ^ 32) ⌝ }
+{
+    a as u64 + 256 * b as u64 + 65536 * c as u64 + 16777216 * d as u64
+}
+
+// Writes the fields to the first 24 bytes.
+pub(crate) fn write_fields(f: Fields, out: &mut [u8])
+    requires { ⌜ 24 ≤ length (now out) ⌝ }
+    ensures { λ _. ⌜ now (out .exit) ≡ bytesOf f ++ drop 24 (now (out .entry)) ⌝ }
+{
+    let opcode = f.opcode as u64;
+    let destination = f.destination;
+    let source1 = f.source1;
+    let source2 = f.source2;
+    write_word(out, 0, opcode);
+    write_word(out, 4, destination);
+    write_word(out, 8, source1);
+    write_word(out, 12, source1 / 0x1_0000_0000);
+    write_word(out, 16, source2);
+    write_word(out, 20, source2 / 0x1_0000_0000);
+}
+
+// The low four bytes of a number, the lowest first.
+fn write_word(out: &mut [u8], at: usize, word: u64)
+    requires { ⌜ at + 4 ≤ length (now out) ⌝ }
+    ensures { λ _. ⌜ now (out .exit) ≡ withWord (now (out .entry)) at word ⌝ }
+{
+    out[at] = (word % 256) as u8;
+    out[at + 1] = (word / 256 % 256) as u8;
+    out[at + 2] = (word / 65536 % 256) as u8;
+    out[at + 3] = (word / 16777216 % 256) as u8;
+}

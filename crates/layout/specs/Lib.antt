@@ -1,0 +1,4 @@
+pub mod Layout
+pub mod Opcodes
+pub mod Records
+pub mod Swizzles
