@@ -94,8 +94,13 @@ fn source_fault(profile: Profile, second: bool, opcode: u32, rows: u8, field: u6
         return first_of(wrong, 16, swizzle_wrong(second, opcode, s.swizzle), 18);
     }
     let s = layout::unpack_direct(field);
-    let wrong = rules::direct_wrong(profile, rows, s);
-    first_of(wrong, 17, swizzle_wrong(second, opcode, s.swizzle), 18)
+    if rules::direct_wrong(profile, rows, s) {
+        return 17;
+    }
+    if swizzle_wrong(second, opcode, s.swizzle) {
+        return 18;
+    }
+    0
 }
 
 fn first_of(a: bool, x: u8, b: bool, y: u8) -> u8

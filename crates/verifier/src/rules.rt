@@ -29,9 +29,10 @@ pub(crate) fn destination_wrong(profile: Profile, used: bool, field: u64) -> boo
 {
     if used {
         let r = layout::unpack_register(field);
-        let writable = registers::is_writable(r.kind, profile.stage);
-        let count = profile::count_of(profile, r.kind);
-        return !writable | (count <= r.number);
+        if !registers::is_writable(r.kind, profile.stage) {
+            return true;
+        }
+        return profile::count_of(profile, r.kind) <= r.number;
     }
     false
 }
@@ -72,10 +73,12 @@ pub(crate) fn indexed_wrong(profile: Profile, rows: u8, s: IndexedSource) -> boo
 pub(crate) fn direct_wrong(profile: Profile, rows: u8, s: DirectSource) -> bool
     ensures { λ r. ⌜ r ≡ directWrong (countIn profile) (profile .stage) rows s ⌝ }
 {
-    let readable = registers::is_readable(s.kind, profile.stage);
+    if !registers::is_readable(s.kind, profile.stage) {
+        return true;
+    }
     let count = profile::count_of(profile, s.kind);
     let end = s.number as u32 + rows as u32;
-    !readable | ((count as u32) < end) | (s.offset != 0)
+    ((count as u32) < end) | (s.offset != 0)
 }
 
 // 18, of source 1

@@ -1,11 +1,16 @@
 -- `source_fault` meets its contract.
 -- Assumes nothing.
-use mathlib.Core.Path.{_∙_, ap, ap₂, sym}
+use Prim.Native.Nat.{ℕ}
+use mathlib.Core.Bool.{Bool, false}
+use mathlib.Core.Path.{_≡_, refl, _∙_, ap, ap₂, sym}
+use Rattle.layout.specs.Records.{isIndexed, directOf, sourceOf}
+use Rattle.layout.specs.declared.record.DirectSource.{DirectSource}
 use Rattle.layout.proofs.SourceKinds.{indexed-source, direct-source}
 use Rattle.verifier.specs.Rules.{indexedWrong, directWrong}
 use Rattle.verifier.specs.Profile.{countIn}
 use Rattle.verifier.specs.Order.{firstFault, sourceRules}
 use Rattle.verifier.specs.Faults.{numberOf, swizzleWrong}
+use Rattle.verifier.specs.declared.profile.Profile.{Profile}
 use Rattle.verifier.proofs.FaultLaws.{number-two, twoFaults}
 use borrow.Author.Needs.{needs}
 use Rattle.verifier.proofs.faults.source_fault.Statement.{statement}
@@ -43,22 +48,42 @@ unpack-direct-requires c κs = search needs
 direct-wrong-requires : tie.Need-direct-wrong-requires
 direct-wrong-requires c κs = search needs
 
-swizzle-wrong-requires-2 : tie.Need-swizzle-wrong-requires-2
-swizzle-wrong-requires-2 c κs = search needs
-
-first-of-requires-2 : tie.Need-first-of-requires-2
-first-of-requires-2 c κs = search needs
+-- by what the two rules of a direct source answer
+direct-fault : (p : Profile) (second : Bool) (opcode rows field : ℕ) (s : DirectSource) {x y : Bool} → s ≡ directOf field → isIndexed field ≡ false
+    → x ≡ directWrong (countIn p) (p .stage) rows s → y ≡ swizzleWrong second opcode (s .swizzle)
+    → numberOf (twoFaults x 17 y 18) ≡ numberOf (firstFault (sourceRules (countIn p) (p .stage) rows (swizzleWrong second opcode) 0 (sourceOf field)))
+direct-fault p second opcode rows field s e direct x y =
+    ap₂ (λ x y. numberOf (twoFaults x 17 y 18))
+    (x ∙ ap (directWrong (countIn p) (p .stage) rows) e)
+    (y ∙ ap (λ s. swizzleWrong second opcode (s .swizzle)) e)
+    ∙ ap (λ o. numberOf (firstFault (sourceRules (countIn p) (p .stage) rows (swizzleWrong second opcode) 0 o))) (sym (direct-source field direct))
 
 returns-2 : tie.Need-returns-2
 returns-2 c =
-    let a = c .before .before .before .before .before .before .args in
-    let s = c .before .before .before .unpack-direct .ensures in
-    c .first-of2 .ensures
-    ∙ number-two (c .before .before .direct-wrong .result) (c .before .swizzle-wrong2 .result) 17 18
-    ∙ ap₂ (λ x y. numberOf (twoFaults x 17 y 18))
-    (c .before .before .direct-wrong .ensures ∙ ap (directWrong (countIn (a .profile)) (a .profile .stage) (a .rows)) s)
-    (c .before .swizzle-wrong2 .ensures ∙ ap (λ s. swizzleWrong (a .second) (a .opcode) (s .swizzle)) s)
-    ∙ ap (λ o. numberOf (firstFault (sourceRules (countIn (a .profile)) (a .profile .stage) (a .rows) (swizzleWrong (a .second) (a .opcode)) 0 o))) (sym (direct-source (a .field) (sym (c .before .before .before .before .before .is-indexed .ensures) ∙ c .before .before .before .before .if1 .left)))
+    let a = c .before .before .before .before .before .args in
+    direct-fault (a .profile) (a .second) (a .opcode) (a .rows) (a .field) _ (c .before .before .unpack-direct .ensures)
+    (sym (c .before .before .before .before .is-indexed .ensures) ∙ c .before .before .before .if1 .left)
+    (sym (c .if2 .taken) ∙ c .before .direct-wrong .ensures)
+    refl
+
+swizzle-wrong-requires-2 : tie.Need-swizzle-wrong-requires-2
+swizzle-wrong-requires-2 c κs = search needs
+
+returns-3 : tie.Need-returns-3
+returns-3 c =
+    let a = c .before .before .before .before .before .before .before .args in
+    direct-fault (a .profile) (a .second) (a .opcode) (a .rows) (a .field) _ (c .before .before .before .before .unpack-direct .ensures)
+    (sym (c .before .before .before .before .before .before .is-indexed .ensures) ∙ c .before .before .before .before .before .if1 .left)
+    (sym (c .before .before .if2 .left) ∙ c .before .before .before .direct-wrong .ensures)
+    (sym (c .if3 .taken) ∙ c .before .swizzle-wrong2 .ensures)
+
+returns-4 : tie.Need-returns-4
+returns-4 c =
+    let a = c .before .before .before .before .before .before .before .args in
+    direct-fault (a .profile) (a .second) (a .opcode) (a .rows) (a .field) _ (c .before .before .before .before .unpack-direct .ensures)
+    (sym (c .before .before .before .before .before .before .is-indexed .ensures) ∙ c .before .before .before .before .before .if1 .left)
+    (sym (c .before .before .if2 .left) ∙ c .before .before .before .direct-wrong .ensures)
+    (sym (c .if3 .left) ∙ c .before .swizzle-wrong2 .ensures)
 
 pub source-fault-spec : {M : Type 1} → statement M
 source-fault-spec =
@@ -72,6 +97,7 @@ source-fault-spec =
     returns
     unpack-direct-requires
     direct-wrong-requires
+    returns-2
     swizzle-wrong-requires-2
-    first-of-requires-2
-    returns-2)
+    returns-3
+    returns-4)
