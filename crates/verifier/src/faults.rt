@@ -5,7 +5,7 @@ ghost use Rattle.layout.specs.Records.{sourceOf, operandOf, tokenOf};
 ghost use Rattle.bytecode.specs.Decode.{refusal as refused};
 ghost use Rattle.verifier.specs.Profile.{countIn};
 ghost use Rattle.verifier.specs.Order.{firstFault, sourceRules};
-ghost use Rattle.verifier.specs.Faults.{numberOf, swizzleWrong, sourcesFault, recordFault, ownFault, undecodedFault};
+ghost use Rattle.verifier.specs.Faults.{numberOf, swizzleWrong, recordFault, ownFault, undecodedFault};
 use crate::profile::Profile;
 use crate::rules;
 use bytecode::answers::Refusal;
@@ -39,6 +39,9 @@ fn record_fault(profile: Profile, token: usize, shape: Shape, f: Fields) -> Refu
     }
     let shape1 = shape.source1;
     let first = operand_fault(profile, false, f.opcode, 1, shape1, f.source1);
+    if first != 0 {
+        return refusal(first, token, 2);
+    }
     let shape2 = shape.source2;
     let second = operand_fault(
         profile,
@@ -48,16 +51,6 @@ fn record_fault(profile: Profile, token: usize, shape: Shape, f: Fields) -> Refu
         shape2,
         f.source2,
     );
-    sources_fault(token, first, second)
-}
-
-// Source 1 comes first. The numbers are 0 where there is no fault.
-fn sources_fault(token: usize, first: u8, second: u8) -> Refusal
-    ensures { λ r. ⌜ r ≡ sourcesFault token first second ⌝ }
-{
-    if first != 0 {
-        return refusal(first, token, 2);
-    }
     if second != 0 {
         return refusal(second, token, 3);
     }

@@ -3,6 +3,7 @@
 use Rattle.layout.specs.Records.{tokenOf}
 use Rattle.verifier.proofs.FaultLaws.{staged}
 use borrow.Author.Needs.{needs}
+use borrow.Author.Tests.{eq-eqb, ne-eqb}
 use Rattle.verifier.proofs.faults.record_fault.Statement.{statement}
 use Rattle.verifier.proofs.faults.record_fault.Tie as tie
 
@@ -45,29 +46,70 @@ returns-2 c =
 operand-fault-requires : tie.Need-operand-fault-requires
 operand-fault-requires c κs = search needs
 
+refusal-requires-3 : tie.Need-refusal-requires-3
+refusal-requires-3 c κs = search needs
+
+returns-3 : tie.Need-returns-3
+unfolding tokenOf
+returns-3 c =
+    let a = c .before .before .before .before .before .before .before .args in
+    simp (
+      staged (a .profile) (a .token) (tokenOf (a .shape) (a .f)),
+      ← c .before .before .before .before .before .before .destination-wrong .ensures,
+      c .before .before .before .before .before .if1 .left,
+      ← c .before .before .before .before .mask-wrong .ensures,
+      c .before .before .before .if2 .left,
+      ← c .before .before .operand-fault .ensures,
+      ne-eqb _ _ (c .before .if3 .taken),
+      c .refusal3 .ensures,
+    )
+
 rows2-requires : tie.Need-rows2-requires
 rows2-requires c κs = search needs
 
 operand-fault-requires-2 : tie.Need-operand-fault-requires-2
 operand-fault-requires-2 c κs = search needs
 
-sources-fault-requires : tie.Need-sources-fault-requires
-sources-fault-requires c κs = search needs
+refusal-requires-4 : tie.Need-refusal-requires-4
+refusal-requires-4 c κs = search needs
 
-returns-3 : tie.Need-returns-3
+returns-4 : tie.Need-returns-4
 unfolding tokenOf
-returns-3 c =
-    let a = c .before .before .before .before .before .before .before .before .args in
+returns-4 c =
+    let a = c .before .before .before .before .before .before .before .before .before .before .args in
     simp (
       staged (a .profile) (a .token) (tokenOf (a .shape) (a .f)),
-      ← c .before .before .before .before .before .before .before .destination-wrong .ensures,
-      c .before .before .before .before .before .before .if1 .left,
-      ← c .before .before .before .before .before .mask-wrong .ensures,
-      c .before .before .before .before .if2 .left,
-      ← c .before .before .before .operand-fault .ensures,
-      ← c .before .before .rows2 .ensures,
-      ← c .before .operand-fault2 .ensures,
-      c .sources-fault .ensures,
+      ← c .before .before .before .before .before .before .before .before .before .destination-wrong .ensures,
+      c .before .before .before .before .before .before .before .before .if1 .left,
+      ← c .before .before .before .before .before .before .before .mask-wrong .ensures,
+      c .before .before .before .before .before .before .if2 .left,
+      ← c .before .before .before .before .before .operand-fault .ensures,
+      eq-eqb _ _ (c .before .before .before .before .if3 .left),
+      ← c .before .before .before .rows2 .ensures,
+      ← c .before .before .operand-fault2 .ensures,
+      ne-eqb _ _ (c .before .if4 .taken),
+      c .refusal4 .ensures,
+    )
+
+refusal-requires-5 : tie.Need-refusal-requires-5
+refusal-requires-5 c κs = search needs
+
+returns-5 : tie.Need-returns-5
+unfolding tokenOf
+returns-5 c =
+    let a = c .before .before .before .before .before .before .before .before .before .before .args in
+    simp (
+      staged (a .profile) (a .token) (tokenOf (a .shape) (a .f)),
+      ← c .before .before .before .before .before .before .before .before .before .destination-wrong .ensures,
+      c .before .before .before .before .before .before .before .before .if1 .left,
+      ← c .before .before .before .before .before .before .before .mask-wrong .ensures,
+      c .before .before .before .before .before .before .if2 .left,
+      ← c .before .before .before .before .before .operand-fault .ensures,
+      eq-eqb _ _ (c .before .before .before .before .if3 .left),
+      ← c .before .before .before .rows2 .ensures,
+      ← c .before .before .operand-fault2 .ensures,
+      eq-eqb _ _ (c .before .if4 .left),
+      c .refusal5 .ensures,
     )
 
 pub record-fault-spec : {M : Type 1} → statement M
@@ -81,7 +123,11 @@ record-fault-spec =
     refusal-requires-2
     returns-2
     operand-fault-requires
+    refusal-requires-3
+    returns-3
     rows2-requires
     operand-fault-requires-2
-    sources-fault-requires
-    returns-3)
+    refusal-requires-4
+    returns-4
+    refusal-requires-5
+    returns-5)
