@@ -1,7 +1,7 @@
 // Whether a token reads what is not written, from its fields and what its opcode holds.
 ghost use mathlib.Core.Path.{_≡_};
 ghost use Prim.Native.Nat.{_*_, _^_, _<_};
-ghost use Rattle.layout.specs.Records.{directOf, sourceOf, destinationOf, operandOf, tokenOf};
+ghost use Rattle.layout.specs.Records.{directOf, indexedOf, sourceOf, destinationOf, operandOf, tokenOf};
 ghost use Rattle.paths.specs.Reads.{maskOf, dimensionOf, rowCount2};
 ghost use Rattle.paths.specs.Access.{amongOf, namedSet, coordinateSet, selectorSet1, selectorSet2, readSet2};
 ghost use Rattle.paths.specs.Access.{lacksAccess, directAccess, indexAccess, accessThrough, components1Of, components2Of, access1Of, access2Of};
@@ -10,7 +10,6 @@ use crate::written::Written;
 use layout::fields::Fields;
 use layout::opcodes::OperandShape;
 use layout::opcodes::Shape;
-use layout::record::IndexedSource;
 
 const M33: u32 = 0x17;
 
@@ -58,7 +57,7 @@ fn source_unwritten1(current: Written, shape: Shape, f: Fields) -> bool
     ensures { λ r. ⌜ r ≡ lacksAccess current (accessThrough 1 (components1Of (tokenOf shape f)) (sourceOf (f .source1))) ⌝ }
 {
     if layout::is_indexed(f.source1) {
-        return index_unwritten(current, layout::unpack_indexed(f.source1));
+        return index_unwritten(current, f.source1);
     }
     direct_unwritten1(current, shape, f)
 }
@@ -97,7 +96,7 @@ fn source_unwritten2(current: Written, shape: Shape, f: Fields) -> bool
     ensures { λ r. ⌜ r ≡ lacksAccess current (accessThrough (rowCount2 (f .opcode)) (components2Of (tokenOf shape f)) (sourceOf (f .source2))) ⌝ }
 {
     if layout::is_indexed(f.source2) {
-        return index_unwritten(current, layout::unpack_indexed(f.source2));
+        return index_unwritten(current, f.source2);
     }
     direct_unwritten2(current, shape, f)
 }
@@ -119,9 +118,10 @@ fn direct_unwritten2(current: Written, shape: Shape, f: Fields) -> bool
 }
 
 // An indexed source reads one component of its index register.
-fn index_unwritten(current: Written, source: IndexedSource) -> bool
-    ensures { λ r. ⌜ r ≡ lacksAccess current (indexAccess source) ⌝ }
+fn index_unwritten(current: Written, field: u64) -> bool
+    ensures { λ r. ⌜ r ≡ lacksAccess current (indexAccess (indexedOf field)) ⌝ }
 {
+    let source = layout::unpack_indexed(field);
     if source.index_kind != 2 {
         return false;
     }

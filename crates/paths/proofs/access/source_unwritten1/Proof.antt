@@ -3,7 +3,7 @@
 use mathlib.Core.Path.{_∙_, ap, sym}
 use Rattle.layout.specs.Records.{tokenOf}
 use Rattle.layout.proofs.SourceKinds.{indexed-source, direct-source}
-use Rattle.paths.specs.Access.{lacksAccess, indexAccess, accessThrough, components1Of}
+use Rattle.paths.specs.Access.{lacksAccess, accessThrough, components1Of}
 use borrow.Author.Needs.{needs}
 use Rattle.paths.proofs.access.source_unwritten1.Statement.{statement}
 use Rattle.paths.proofs.access.source_unwritten1.Tie as tie
@@ -11,19 +11,15 @@ use Rattle.paths.proofs.access.source_unwritten1.Tie as tie
 is-indexed-requires : tie.Need-is-indexed-requires
 is-indexed-requires c κs = search needs
 
-unpack-indexed-requires : tie.Need-unpack-indexed-requires
-unpack-indexed-requires c κs = search needs
-
 index-unwritten-requires : tie.Need-index-unwritten-requires
 index-unwritten-requires c κs = search needs
 
 returns : tie.Need-returns
 returns c =
-    let a = c .before .before .before .before .args in
+    let a = c .before .before .before .args in
     c .index-unwritten .ensures
-    ∙ ap (λ s. lacksAccess (a .current) (indexAccess s)) (c .before .unpack-indexed .ensures)
     ∙ ap (λ o. lacksAccess (a .current) (accessThrough 1 (components1Of (tokenOf (a .shape) (a .f))) o))
-    (sym (indexed-source (a .f .source1) (sym (c .before .before .before .is-indexed .ensures) ∙ c .before .before .if1 .taken)))
+    (sym (indexed-source (a .f .source1) (sym (c .before .before .is-indexed .ensures) ∙ c .before .if1 .taken)))
 
 direct-unwritten1-requires : tie.Need-direct-unwritten1-requires
 direct-unwritten1-requires c κs = search needs
@@ -40,7 +36,6 @@ source-unwritten1-spec =
     tie.close
     (tie.spec
     is-indexed-requires
-    unpack-indexed-requires
     index-unwritten-requires
     returns
     direct-unwritten1-requires

@@ -4,7 +4,7 @@ use mathlib.Core.Path.{_∙_, ap, sym}
 use Rattle.layout.specs.Records.{tokenOf}
 use Rattle.layout.proofs.SourceKinds.{indexed-source, direct-source}
 use Rattle.paths.specs.Reads.{rowCount2}
-use Rattle.paths.specs.Access.{lacksAccess, indexAccess, accessThrough, components2Of}
+use Rattle.paths.specs.Access.{lacksAccess, accessThrough, components2Of}
 use borrow.Author.Needs.{needs}
 use Rattle.paths.proofs.access.source_unwritten2.Statement.{statement}
 use Rattle.paths.proofs.access.source_unwritten2.Tie as tie
@@ -12,19 +12,15 @@ use Rattle.paths.proofs.access.source_unwritten2.Tie as tie
 is-indexed-requires : tie.Need-is-indexed-requires
 is-indexed-requires c κs = search needs
 
-unpack-indexed-requires : tie.Need-unpack-indexed-requires
-unpack-indexed-requires c κs = search needs
-
 index-unwritten-requires : tie.Need-index-unwritten-requires
 index-unwritten-requires c κs = search needs
 
 returns : tie.Need-returns
 returns c =
-    let a = c .before .before .before .before .args in
+    let a = c .before .before .before .args in
     c .index-unwritten .ensures
-    ∙ ap (λ s. lacksAccess (a .current) (indexAccess s)) (c .before .unpack-indexed .ensures)
     ∙ ap (λ o. lacksAccess (a .current) (accessThrough (rowCount2 (a .f .opcode)) (components2Of (tokenOf (a .shape) (a .f))) o))
-    (sym (indexed-source (a .f .source2) (sym (c .before .before .before .is-indexed .ensures) ∙ c .before .before .if1 .taken)))
+    (sym (indexed-source (a .f .source2) (sym (c .before .before .is-indexed .ensures) ∙ c .before .if1 .taken)))
 
 direct-unwritten2-requires : tie.Need-direct-unwritten2-requires
 direct-unwritten2-requires c κs = search needs
@@ -41,7 +37,6 @@ source-unwritten2-spec =
     tie.close
     (tie.spec
     is-indexed-requires
-    unpack-indexed-requires
     index-unwritten-requires
     returns
     direct-unwritten2-requires
