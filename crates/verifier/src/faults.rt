@@ -1,8 +1,9 @@
 // The first of faults 9 to 19 of one token; number 0 where there is none.
-ghost use mathlib.Core.Bool.{cond};
+ghost use mathlib.Core.Bool.{not, cond};
 ghost use mathlib.Core.Path.{_≡_};
 ghost use Rattle.layout.specs.Records.{sourceOf, operandOf, tokenOf};
-ghost use Rattle.bytecode.specs.Decode.{refusal as refused};
+ghost use lib.Dec.{eqb};
+ghost use Rattle.bytecode.specs.Decode.{refusal as refused, noRefusal};
 ghost use Rattle.verifier.specs.Profile.{countIn};
 ghost use Rattle.verifier.specs.Order.{firstFault, sourceRules};
 ghost use Rattle.verifier.specs.Faults.{numberOf, swizzleWrong, recordFault, ownFault, undecodedFault};
@@ -51,8 +52,15 @@ fn record_fault(profile: Profile, token: usize, shape: Shape, f: Fields) -> Refu
         shape2,
         f.source2,
     );
-    if second != 0 {
-        return refusal(second, token, 3);
+    if_any(second, token, 3)
+}
+
+// A fault with this number, or none where it is 0.
+fn if_any(number: u8, token: usize, part: u8) -> Refusal
+    ensures { λ r. ⌜ r ≡ cond (not (eqb number 0)) (refused number token part) noRefusal ⌝ }
+{
+    if number != 0 {
+        return refusal(number, token, part);
     }
     refusal(0, 0, 0)
 }

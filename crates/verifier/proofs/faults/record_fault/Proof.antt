@@ -1,5 +1,6 @@
 -- `record_fault` meets its contract.
 -- Assumes nothing.
+use mathlib.Core.Path.{_∙_}
 use Rattle.layout.specs.Records.{tokenOf}
 use Rattle.verifier.proofs.FaultLaws.{staged}
 use borrow.Author.Needs.{needs}
@@ -70,46 +71,24 @@ rows2-requires c κs = search needs
 operand-fault-requires-2 : tie.Need-operand-fault-requires-2
 operand-fault-requires-2 c κs = search needs
 
-refusal-requires-4 : tie.Need-refusal-requires-4
-refusal-requires-4 c κs = search needs
+if-any-requires : tie.Need-if-any-requires
+if-any-requires c κs = search needs
 
 returns-4 : tie.Need-returns-4
 unfolding tokenOf
 returns-4 c =
-    let a = c .before .before .before .before .before .before .before .before .before .before .args in
-    simp (
+    let a = c .before .before .before .before .before .before .before .before .before .args in
+    c .if-any .ensures
+    ∙ simp (
       staged (a .profile) (a .token) (tokenOf (a .shape) (a .f)),
-      ← c .before .before .before .before .before .before .before .before .before .destination-wrong .ensures,
-      c .before .before .before .before .before .before .before .before .if1 .left,
-      ← c .before .before .before .before .before .before .before .mask-wrong .ensures,
-      c .before .before .before .before .before .before .if2 .left,
-      ← c .before .before .before .before .before .operand-fault .ensures,
-      eq-eqb _ _ (c .before .before .before .before .if3 .left),
-      ← c .before .before .before .rows2 .ensures,
-      ← c .before .before .operand-fault2 .ensures,
-      ne-eqb _ _ (c .before .if4 .taken),
-      c .refusal4 .ensures,
-    )
-
-refusal-requires-5 : tie.Need-refusal-requires-5
-refusal-requires-5 c κs = search needs
-
-returns-5 : tie.Need-returns-5
-unfolding tokenOf
-returns-5 c =
-    let a = c .before .before .before .before .before .before .before .before .before .before .args in
-    simp (
-      staged (a .profile) (a .token) (tokenOf (a .shape) (a .f)),
-      ← c .before .before .before .before .before .before .before .before .before .destination-wrong .ensures,
-      c .before .before .before .before .before .before .before .before .if1 .left,
-      ← c .before .before .before .before .before .before .before .mask-wrong .ensures,
-      c .before .before .before .before .before .before .if2 .left,
-      ← c .before .before .before .before .before .operand-fault .ensures,
-      eq-eqb _ _ (c .before .before .before .before .if3 .left),
-      ← c .before .before .before .rows2 .ensures,
-      ← c .before .before .operand-fault2 .ensures,
-      eq-eqb _ _ (c .before .if4 .left),
-      c .refusal5 .ensures,
+      ← c .before .before .before .before .before .before .before .before .destination-wrong .ensures,
+      c .before .before .before .before .before .before .before .if1 .left,
+      ← c .before .before .before .before .before .before .mask-wrong .ensures,
+      c .before .before .before .before .before .if2 .left,
+      ← c .before .before .before .before .operand-fault .ensures,
+      eq-eqb _ _ (c .before .before .before .if3 .left),
+      ← c .before .before .rows2 .ensures,
+      ← c .before .operand-fault2 .ensures,
     )
 
 pub record-fault-spec : {M : Type 1} → statement M
@@ -127,7 +106,5 @@ record-fault-spec =
     returns-3
     rows2-requires
     operand-fault-requires-2
-    refusal-requires-4
-    returns-4
-    refusal-requires-5
-    returns-5)
+    if-any-requires
+    returns-4)
