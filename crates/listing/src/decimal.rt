@@ -1,30 +1,21 @@
 // Numbers in decimal, without leading zeros.
 ghost use mathlib.Core.Path.{_≡_};
-ghost use Prim.Native.Nat.{_+_, _≤_, _<_};
+ghost use Prim.Native.Nat.{_+_, _≤_};
 ghost use lib.ListN.{length};
 ghost use Rattle.listing.specs.Decimal.{decimal, signedDecimal, isNegative, magnitude as magnitudeOf};
-ghost use Rattle.listing.specs.Writers.{Appends, digitAt};
+ghost use Rattle.listing.specs.Writers.{Appends};
 use crate::text;
 
-// A number of 0 to 65535, which has at most five digits: each unit's digit in turn, from the largest unit that the number reaches.
+// A number of 0 to 65535, which has at most five digits: that of each unit in turn, from the largest unit that the number reaches.
 pub(crate) fn put_decimal(out: &mut [u8], at: usize, n: u16) -> usize
     requires { ⌜ at + 5 ≤ length (now out) ⌝ }
     ensures { λ r. ⌜ Appends (decimal n) 5 at (now (out .entry)) (now (out .exit)) r ⌝ }
 {
-    let a = put_digit(out, at, n, 10000);
-    let b = put_digit(out, a, n, 1000);
-    let c = put_digit(out, b, n, 100);
-    let d = put_digit(out, c, n, 10);
+    let a = text::put_when(out, at, 10000 <= n, 48 + (n / 10000 % 10) as u8);
+    let b = text::put_when(out, a, 1000 <= n, 48 + (n / 1000 % 10) as u8);
+    let c = text::put_when(out, b, 100 <= n, 48 + (n / 100 % 10) as u8);
+    let d = text::put_when(out, c, 10 <= n, 48 + (n / 10 % 10) as u8);
     text::put_byte(out, d, 48 + (n % 10) as u8)
-}
-
-// The digit that counts a unit, nothing where the number is smaller than the unit.
-fn put_digit(out: &mut [u8], at: usize, n: u16, unit: u16) -> usize
-    requires { ⌜ at + 1 ≤ length (now out) ⌝ }
-    requires { ⌜ 0 < unit ⌝ }
-    ensures { λ r. ⌜ Appends (digitAt n unit) 1 at (now (out .entry)) (now (out .exit)) r ⌝ }
-{
-    text::put_when(out, at, unit <= n, 48 + (n / unit % 10) as u8)
 }
 
 pub(crate) fn put_signed(out: &mut [u8], at: usize, value: i8) -> usize
