@@ -13,7 +13,7 @@ use Rattle.layout.specs.declared.record.Token.{Token}
 use Rattle.bytecode.specs.declared.answers.Refusal.{Refusal}
 use Rattle.bytecode.specs.declared.answers.Decoded.{Decoded}
 use Rattle.bytecode.specs.declared.answers.Decoded.the-variants.{Token as Accepted, Refused}
-use Rattle.verifier.specs.Order.{tokenAt}
+use Rattle.faults.specs.Order.{tokenAt}
 use Rattle.reader.specs.declared.answers.Opening.the-variants.{Ready, Refused as NotOpened}
 use Rattle.reader.specs.Reading.{openingFault, openingNumbers, openingOf, tokenStart, noTokenLeft, standsAt, faultAt, readOf, readFault, placeFrom, placeAfter, ReadsAt, Steps}
 

@@ -10,7 +10,7 @@ use Rattle.bytecode.specs.Decode.{refusal, noRefusal, decodedNumbers, decodeFau
 use Rattle.bytecode.specs.declared.answers.Refusal.{Refusal}
 use Rattle.bytecode.specs.declared.answers.Decoded.{Decoded}
 use Rattle.bytecode.specs.declared.answers.Decoded.the-variants.{Token as Accepted, Refused}
-use Rattle.verifier.specs.Order.{tokenAt}
+use Rattle.faults.specs.Order.{tokenAt}
 use Rattle.reader.specs.declared.answers.TokenReader.{TokenReader}
 use Rattle.reader.specs.declared.answers.Opening.{Opening}
 use Rattle.reader.specs.declared.answers.Opening.the-variants.{Ready, Refused as NotOpened}

@@ -8,7 +8,7 @@ use Rattle.bytecode.specs.Decode.{refusal, decodeOf}
 use Rattle.layout.specs.declared.record.Token.{Token}
 use Rattle.bytecode.specs.declared.answers.Refusal.{Refusal}
 use Rattle.bytecode.specs.declared.answers.Decoded.the-variants.{Token as Accepted, Refused}
-use Rattle.verifier.specs.Order.{recordOf, tokenAt}
+use Rattle.faults.specs.Order.{recordOf, tokenAt}
 use Rattle.verifier.specs.Verdict.{program, verdict}
 use Rattle.verifier.specs.declared.answers.Checked.the-variants.{Accepted as IsAccepted}
 use Rattle.reader.specs.Reading.{openingFault, tokenStart, readOf, placeAfter, Opens, Reads}

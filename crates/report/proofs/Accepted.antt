@@ -29,13 +29,13 @@ use Rattle.paths.specs.Paths.{Flow, plain, opener, els, eif}
 use Rattle.paths.specs.Nesting.{Branch, branchesAfter, misplaced, misplacedFrom}
 use Rattle.paths.specs.Reads.{rowCount2}
 use Rattle.listing.specs.Line.{samplerHasNames, destinationHasNames, operandHasNames, isNameable}
-use Rattle.verifier.specs.Rules.{destinationWrong, samplerWrong, selectorsDiffer, matrixSwizzled, stageOf, tokenCount}
-use Rattle.verifier.specs.Order.{Rule, sourceRules, tokenRules, recordOf, tokenAt, tokensFrom}
+use Rattle.faults.specs.Rules.{destinationWrong, samplerWrong, selectorsDiffer, matrixSwizzled, stageOf, tokenCount}
+use Rattle.faults.specs.Order.{Rule, sourceRules, tokenRules, recordOf, tokenAt, tokensFrom}
 use Rattle.verifier.specs.Verdict.{program, verdict}
 use Rattle.verifier.specs.declared.answers.Program.{Program}
 use Rattle.verifier.specs.declared.answers.Checked.the-variants.{Accepted}
 use Rattle.verifier.proofs.AcceptedTokens.{is-program, header-whole, stage-known, rules-kept, well-placed, whole-tokens}
-use Rattle.verifier.proofs.FaultLaws.{AllKept}
+use Rattle.faults.proofs.FaultLaws.{AllKept}
 use Rattle.report.specs.Depth.{shownDepth, openedAfter}
 use Rattle.report.specs.Lines.{flowIn, Listable}
 

@@ -21,8 +21,8 @@ use Rattle.verifier.specs.declared.state.Flow.the-variants.{Els, Plain}
 use Rattle.verifier.proofs.Abstract.{flowIs, flow-is}
 use Rattle.listing.specs.Line.{lineOf, isNameable, destinationHasNames, operandHasNames}
 use Rattle.listing.specs.Writers.{Appends}
-use Rattle.verifier.specs.Rules.{tokenCount}
-use Rattle.verifier.specs.Order.{tokenAt, recordOf}
+use Rattle.faults.specs.Rules.{tokenCount}
+use Rattle.faults.specs.Order.{tokenAt, recordOf}
 use Rattle.report.specs.Depth.{shownDepth, openedAfter}
 use Rattle.report.specs.Lines.{flowIn, linesFrom, Listable}
 

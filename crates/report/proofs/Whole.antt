@@ -18,7 +18,7 @@ use Rattle.listing.specs.declared.answers.Printed.{Printed}
 use Rattle.listing.specs.declared.first.First.the-variants.{NoEdition, InputTooLong}
 use Rattle.listing.specs.Writers.{Appends}
 use Rattle.listing.proofs.Writing.{_then_, within}
-use Rattle.verifier.specs.Rules.{tokenCount}
+use Rattle.faults.specs.Rules.{tokenCount}
 use Rattle.verifier.specs.Verdict.{verdict}
 use Rattle.verifier.specs.declared.answers.Program.{Program}
 use Rattle.verifier.specs.declared.answers.Checked.the-variants.{Accepted, Refused}

@@ -9,7 +9,7 @@ use Rattle.layout.specs.declared.record.Token.{Token}
 use Rattle.paths.specs.Paths.{Flow}
 use Rattle.paths.specs.Tokens.{flowOf}
 use Rattle.listing.specs.Line.{lineOf, isNameable}
-use Rattle.verifier.specs.Order.{tokenAt, recordOf}
+use Rattle.faults.specs.Order.{tokenAt, recordOf}
 use Rattle.report.specs.Depth.{shownDepth, openedAfter}
 
 -- what a token does to branches

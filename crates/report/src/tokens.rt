@@ -8,8 +8,8 @@ ghost use Rattle.bytecode.specs.declared.answers.Decoded.the-variants.{Token as
 ghost use Rattle.paths.specs.Tokens.{flowOf};
 ghost use Rattle.listing.specs.Line.{lineOf, isNameable};
 ghost use Rattle.listing.specs.Writers.{Appends};
-ghost use Rattle.verifier.specs.Rules.{tokenCount};
-ghost use Rattle.verifier.specs.Order.{tokenAt, recordOf};
+ghost use Rattle.faults.specs.Rules.{tokenCount};
+ghost use Rattle.faults.specs.Order.{tokenAt, recordOf};
 ghost use Rattle.report.specs.Depth.{shownDepth, openedAfter};
 ghost use Rattle.report.specs.Lines.{linesFrom, Listable};
 use bytecode::answers::Decoded;

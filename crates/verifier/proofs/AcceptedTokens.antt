@@ -14,15 +14,15 @@ use Rattle.bytecode.proofs.DecodeLaws.{no-faults}
 use Rattle.registers.specs.Counts.{countOf}
 use Rattle.paths.specs.Nesting.{misplacedAt}
 use Rattle.paths.specs.Faults.{tokenFaultAt, Clean, Faultless}
-use Rattle.verifier.specs.Rules.{stageOf, tokenCount}
-use Rattle.verifier.specs.Order.{firstFault, headerRules, tokenRules, recordOf, tokenAt, tokensFrom, tokensOf}
+use Rattle.faults.specs.Rules.{stageOf, tokenCount}
+use Rattle.faults.specs.Order.{firstFault, headerRules, tokenRules, recordOf, tokenAt, tokensFrom, tokensOf}
 use Rattle.verifier.specs.Verdict.{program, verdict}
 use Rattle.verifier.specs.Exact.{HeaderRight}
 use Rattle.verifier.specs.Accepted.{WholeTokens, AcceptedDecodes}
 use Rattle.verifier.specs.declared.answers.Program.{Program}
 use Rattle.verifier.specs.declared.answers.Checked.the-variants.{Accepted}
 use Rattle.verifier.proofs.ExactCheck.{exact-check}
-use Rattle.verifier.proofs.FaultLaws.{AllKept, none-broken}
+use Rattle.faults.proofs.FaultLaws.{AllKept, none-broken}
 use Rattle.verifier.proofs.HeaderLaw.{has-header}
 
 -- a token that keeps the rules 9 to 19

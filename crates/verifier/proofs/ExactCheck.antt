@@ -13,14 +13,14 @@ use Rattle.paths.specs.Faults.{Answer, accepted, refused, TokenFaultsNumbered}
 use Rattle.paths.specs.Check.{verdictOf}
 use Rattle.paths.proofs.ExactVerdict.{exact}
 use Rattle.paths.proofs.PathDemand.{demand3}
-use Rattle.verifier.specs.Rules.{stageOf, tokenCount}
-use Rattle.verifier.specs.Order.{firstFault, headerRules, tokenAt, tokensFrom, tokensOf}
+use Rattle.faults.specs.Rules.{stageOf, tokenCount}
+use Rattle.faults.specs.Order.{firstFault, headerRules, tokenAt, tokensFrom, tokensOf}
 use Rattle.verifier.specs.Verdict.{program, answerOf, afterHeader, verdict, checkedNumbers}
 use Rattle.verifier.specs.Exact.{Exact, Demand3, Checks}
 use Rattle.verifier.specs.declared.answers.Checked.{Checked}
 use Rattle.verifier.specs.declared.answers.Checked.the-variants.{Accepted, Refused}
 use Rattle.verifier.proofs.HeaderLaw.{header-numbered}
-use Rattle.verifier.proofs.OwnFault.{token-numbered}
+use Rattle.faults.proofs.OwnFault.{token-numbered}
 
 -- ---- the numbers of faults
 

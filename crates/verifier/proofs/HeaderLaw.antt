@@ -12,10 +12,11 @@ use lib.ListN.{length}
 use borrow.Author.Tests.{lt-ltb}
 use Rattle.paths.specs.Paths.{TokenFault}
 use Rattle.paths.specs.Check.{verdictOf}
-use Rattle.verifier.specs.Rules.{editionUnknown}
-use Rattle.verifier.specs.Order.{Rule, firstFault, headerRules, tokensOf}
-use Rattle.verifier.specs.Faults.{refusalAt}
-use Rattle.verifier.specs.Verdict.{headerFault, answerOf, afterHeader, verdict}
+use Rattle.faults.specs.Rules.{editionUnknown}
+use Rattle.faults.specs.Order.{Rule, firstFault, headerRules, tokensOf}
+use Rattle.faults.specs.Faults.{refusalAt}
+use Rattle.faults.specs.Header.{headerFault}
+use Rattle.verifier.specs.Verdict.{answerOf, afterHeader, verdict}
 use Rattle.verifier.specs.declared.answers.Checked.{Checked}
 use Rattle.verifier.specs.declared.answers.Checked.the-variants.{Refused}
 

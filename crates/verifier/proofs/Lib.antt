@@ -1,14 +1,10 @@
 pub mod Abstract
 pub mod AcceptedTokens
-pub mod Added
 pub mod BenchCases
 pub mod ExactCheck
-pub mod FaultLaws
 pub mod HeaderLaw
 pub mod LoopLaw
 pub mod NextState
-pub mod OwnFault
-pub mod Packed
 pub mod Stack
 pub mod StepLaw
 pub mod TokenLaw

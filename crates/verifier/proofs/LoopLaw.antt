@@ -14,14 +14,14 @@ use Rattle.paths.specs.Unwritten.{nothing}
 use Rattle.paths.specs.Written.{componentSet, halfOf}
 use Rattle.paths.specs.Faults as faults
 use Rattle.paths.specs.Check.{start, ending, checkFrom, verdictOf}
-use Rattle.verifier.specs.Rules.{stageOf, tokenCount}
-use Rattle.verifier.specs.Profile.{profileOf}
-use Rattle.verifier.specs.Order.{tokenAt, tokensFrom, tokensOf}
+use Rattle.faults.specs.Rules.{stageOf, tokenCount}
+use Rattle.faults.specs.Profile.{profileOf}
+use Rattle.faults.specs.Order.{tokenAt, tokensFrom, tokensOf}
 use Rattle.verifier.specs.State.{noneWritten, startState, topOf, withTop}
 use Rattle.verifier.specs.Step.{stepOf}
 use Rattle.verifier.specs.Verdict.{answerOf}
 use Rattle.verifier.specs.Finish.{finishOf}
-use Rattle.verifier.specs.declared.profile.Profile.{Profile}
+use Rattle.faults.specs.declared.profile.Profile.{Profile}
 use Rattle.verifier.specs.declared.state.State.{State}
 use Rattle.verifier.specs.declared.state.Top.{Top}
 use Rattle.verifier.specs.declared.step.Stepped.{Stepped}

@@ -28,7 +28,7 @@ use Rattle.paths.specs.Unwritten.{adds}
 use Rattle.paths.specs.Written.{componentSet}
 use Rattle.paths.specs.Check.{judge, lacks, setBefore, nextState, currentAt, checkFrom}
 use Rattle.paths.proofs.AccessLaws.{lacks-reads1, lacks-reads2}
-use Rattle.verifier.specs.Rules.{destinationWrong}
+use Rattle.faults.specs.Rules.{destinationWrong}
 use Rattle.verifier.specs.State.{flowOfCode, topOf, withTop, isMisplaced, metTop, partedTop}
 use Rattle.verifier.specs.Step.{stepped, nextOf, followOf}
 use Rattle.verifier.specs.declared.state.Flow as code

@@ -19,19 +19,19 @@ use Rattle.registers.specs.Counts.{countOf}
 use Rattle.paths.specs.Paths.{TokenFault, PathToken}
 use Rattle.paths.specs.Tokens.{pathTokenOf}
 use Rattle.paths.specs.Check.{checkFrom}
-use Rattle.verifier.specs.Rules.{opcodeTooNew, opcodeNotForStage, destinationWrong}
-use Rattle.verifier.specs.Profile.{profileOf}
-use Rattle.verifier.specs.Order.{firstFault, tokenRules, recordOf, pathTokenAt}
-use Rattle.verifier.specs.Faults.{refusalAt, ownFault, undecodedFault}
+use Rattle.faults.specs.Rules.{opcodeTooNew, opcodeNotForStage, destinationWrong}
+use Rattle.faults.specs.Profile.{profileOf}
+use Rattle.faults.specs.Order.{firstFault, tokenRules, recordOf, pathTokenAt}
+use Rattle.faults.specs.Faults.{refusalAt, ownFault, undecodedFault}
 use Rattle.verifier.specs.State.{topOf, withTop}
 use Rattle.verifier.specs.Step.{stepped, followOf, takeOf, decidedOf, stepOf}
-use Rattle.verifier.specs.declared.profile.Profile.{Profile}
+use Rattle.faults.specs.declared.profile.Profile.{Profile}
 use Rattle.verifier.specs.declared.state.State.{State}
 use Rattle.verifier.specs.declared.step.Stepped.{Stepped}
 use Rattle.verifier.proofs.Abstract.{abstractOf, Valid, valid-own}
-use Rattle.verifier.proofs.FaultLaws.{none-broken}
+use Rattle.faults.proofs.FaultLaws.{none-broken}
 use Rattle.verifier.proofs.NextState.{Kept}
-use Rattle.verifier.proofs.OwnFault.{token-numbered, refused-fault, taken-fault}
+use Rattle.faults.proofs.OwnFault.{token-numbered, refused-fault, taken-fault}
 use Rattle.verifier.proofs.StepLaw.{after, kept, followed, follow-valid}
 
 -- the destination of a token with none of faults 9 to 19

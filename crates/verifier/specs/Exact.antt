@@ -10,8 +10,8 @@ use Rattle.paths.specs.Paths.{Source, Path, visited}
 use Rattle.paths.specs.Unwritten.{ReadsUnwritten}
 use Rattle.paths.specs.Nesting.{Closes}
 use Rattle.paths.specs.Faults.{Faultless, FirstFault, FirstUnwritten}
-use Rattle.verifier.specs.Rules.{stageOf, tokenCount}
-use Rattle.verifier.specs.Order.{firstFault, headerRules, tokensOf}
+use Rattle.faults.specs.Rules.{stageOf, tokenCount}
+use Rattle.faults.specs.Order.{firstFault, headerRules, tokensOf}
 use Rattle.verifier.specs.Verdict.{program, verdict, checkedNumbers}
 use Rattle.verifier.specs.declared.answers.Checked.{Checked}
 use Rattle.verifier.specs.declared.answers.Checked.the-variants.{Accepted, Refused}

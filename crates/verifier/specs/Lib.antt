@@ -1,12 +1,7 @@
 pub mod Accepted
 pub mod BenchCases
 pub mod Exact
-pub mod Faults
 pub mod Finish
-pub mod Header
-pub mod Order
-pub mod Profile
-pub mod Rules
 pub mod State
 pub mod Step
 pub mod Verdict

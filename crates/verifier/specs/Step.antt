@@ -10,9 +10,9 @@ use Rattle.bytecode.specs.declared.answers.Decoded.{Decoded}
 use Rattle.bytecode.specs.declared.answers.Decoded.the-variants.{Token as Accepted, Refused}
 use Rattle.layout.specs.declared.record.Token.{Token}
 use Rattle.paths.specs.Access.{lacksAccess, access1Of, access2Of}
-use Rattle.verifier.specs.Faults.{ownFault, undecodedFault}
+use Rattle.faults.specs.Faults.{ownFault, undecodedFault}
 use Rattle.verifier.specs.State.{flowOfCode, isMisplaced, metTop, wroteTop, partedTop}
-use Rattle.verifier.specs.declared.profile.Profile.{Profile}
+use Rattle.faults.specs.declared.profile.Profile.{Profile}
 use Rattle.verifier.specs.declared.state.Top.{Top}
 use Rattle.verifier.specs.declared.step.Stepped.{Stepped}
 

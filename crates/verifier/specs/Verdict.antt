@@ -8,16 +8,11 @@ use Rattle.bytecode.specs.declared.answers.Refusal.{Refusal}
 use Rattle.paths.specs.Paths.{TokenFault}
 use Rattle.paths.specs.Faults.{Answer, accepted, refused}
 use Rattle.paths.specs.Check.{verdictOf}
-use Rattle.verifier.specs.Rules.{stageOf, tokenCount}
-use Rattle.verifier.specs.Order.{firstFault, headerRules, tokensOf}
-use Rattle.verifier.specs.Faults.{refusalAt}
+use Rattle.faults.specs.Rules.{stageOf, tokenCount}
+use Rattle.faults.specs.Order.{firstFault, headerRules, tokensOf}
 use Rattle.verifier.specs.declared.answers.Program.{Program}
 use Rattle.verifier.specs.declared.answers.Checked.{Checked}
 use Rattle.verifier.specs.declared.answers.Checked.the-variants.{Accepted, Refused}
-
--- faults 1 to 8, at token 0
-unfoldable pub headerFault : ℕ → List ℕ → Refusal
-headerFault edition bytes = refusalAt 0 (firstFault (headerRules edition bytes))
 
 abbrev pub program : ℕ → ℕ → Program
 program stage tokens = record { stage = stage; tokens = tokens }

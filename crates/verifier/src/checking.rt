@@ -3,15 +3,12 @@ ghost use mathlib.Core.Path.{_≡_};
 ghost use Prim.Native.Nat.{_≤_};
 ghost use lib.ListN.{length};
 ghost use Rattle.paths.specs.Check.{verdictOf};
-ghost use Rattle.verifier.specs.Order.{tokensOf};
+ghost use Rattle.faults.specs.Order.{tokensOf};
 ghost use Rattle.verifier.specs.Verdict.{answerOf};
 ghost use Rattle.verifier.specs.Finish.{finishOf};
 ghost use Rattle.verifier.specs.Exact.{Checks};
 use crate::answers::Checked;
 use crate::answers::Program;
-use crate::faults;
-use crate::header;
-use crate::profile;
 use crate::state;
 use crate::state::State;
 use crate::state::Top;
@@ -20,7 +17,7 @@ use crate::state::Top;
 pub fn check(edition: u32, bytes: &[u8]) -> Checked
     ensures { λ r. ⌜ Checks edition (now (bytes .entry)) r ⌝ }
 {
-    let fault = header::header_fault(edition, bytes);
+    let fault = faults::header_fault(edition, bytes);
     if fault.number != 0 {
         return Checked::Refused(fault);
     }
@@ -34,7 +31,7 @@ fn check_tokens(edition: u32, bytes: &[u8]) -> Checked
 {
     let stage = bytes[6];
     let count = (bytes.len() - 7) / 24;
-    let profile = profile::profile_of(edition, stage);
+    let profile = faults::profile_of(edition, stage);
     let mut state = State::start();
     let mut token = 0;
     while token < count {

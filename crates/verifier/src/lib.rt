@@ -3,10 +3,6 @@
 // Header, one-token step and end are functions of their own, so that a program can be judged token by token.
 pub mod answers;
 mod checking;
-mod faults;
-mod header;
-mod profile;
-mod rules;
 mod state;
 mod step;
 

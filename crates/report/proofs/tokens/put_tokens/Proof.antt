@@ -8,7 +8,7 @@ use native.Mathlib.Omega.{arith}
 use lib.ListN.{length, take, drop}
 use denote.Ref.{now}
 use Rattle.listing.proofs.Writing.{onwards}
-use Rattle.verifier.specs.Rules.{tokenCount}
+use Rattle.faults.specs.Rules.{tokenCount}
 use Rattle.report.specs.Lines.{linesFrom, Listable}
 use Rattle.report.proofs.Turn.{decodes, nameable, low, rest, grows, starts, starts-text, finished}
 use Rattle.report.proofs.tokens.put_tokens.Statement.{statement}

@@ -7,8 +7,8 @@ use borrow.Author.Needs.{needs}
 use lib.ListN.{getD, set}
 use denote.Ref.{now}
 use Rattle.paths.specs.Check.{verdictOf}
-use Rattle.verifier.specs.Rules.{tokenCount}
-use Rattle.verifier.specs.Order.{tokensOf}
+use Rattle.faults.specs.Rules.{tokenCount}
+use Rattle.faults.specs.Order.{tokensOf}
 use Rattle.verifier.specs.State.{blankBranch}
 use Rattle.verifier.specs.Verdict.{answerOf}
 use Rattle.verifier.specs.declared.state.Branch.{Branch}

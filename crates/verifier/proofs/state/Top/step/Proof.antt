@@ -3,7 +3,7 @@
 use mathlib.Core.Path.{_∙_, ap}
 use denote.Ref.{now}
 use Rattle.bytecode.proofs.DecodeLaws.{refused-by, accepted-by}
-use Rattle.verifier.specs.Faults.{undecodedFault}
+use Rattle.faults.specs.Faults.{undecodedFault}
 use Rattle.verifier.specs.Step.{stepped, decidedOf}
 use borrow.Author.Needs.{needs}
 use Rattle.verifier.proofs.state.Top.step.Statement.{statement}

@@ -1,0 +1,4 @@
+pub mod Added
+pub mod FaultLaws
+pub mod OwnFault
+pub mod Packed

@@ -1,0 +1,14 @@
+-- `sampler_wrong` meets its contract.
+-- Assumes nothing.
+use borrow.Author.Needs.{needs}
+use Rattle.faults.proofs.rules.sampler_wrong.Statement.{statement}
+use Rattle.faults.proofs.rules.sampler_wrong.Tie as tie
+
+count-of-requires : tie.Need-count-of-requires
+count-of-requires c κs = search needs
+
+returns : tie.Need-returns
+returns c = simp (c .before .before .before .before .before .before .before .count-of .ensures)
+
+pub sampler-wrong-spec : {M : Type 1} → statement M
+sampler-wrong-spec = tie.close (tie.spec count-of-requires returns)
