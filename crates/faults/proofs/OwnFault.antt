@@ -22,7 +22,7 @@ use Rattle.bytecode.proofs.DecodeLaws.{accepted, none-broken, was-refused}
 use Rattle.layout.proofs.Listed.{listed-below}
 use Rattle.registers.specs.Counts.{countOf}
 use Rattle.paths.specs.Paths.{TokenFault}
-use Rattle.paths.specs.Reads.{rowCount2}
+use Rattle.components.specs.Reads.{rowCount2}
 use Rattle.faults.specs.Rules.{opcodeTooNew, opcodeNotForStage, selectorsDiffer, matrixSwizzled}
 use Rattle.faults.specs.Profile.{profileOf, countIn}
 use Rattle.faults.specs.Order.{Rule, firstFault, sourceRules, recordRules, tokenRules, recordOf}

@@ -15,8 +15,8 @@ use Rattle.layout.specs.declared.record.Operand.the-variants.{Unused as NoOpera
 use Rattle.layout.specs.declared.record.Token.{Token}
 use Rattle.registers.specs.Counts.{countOf}
 use Rattle.paths.specs.Paths.{TokenFault, PathToken}
-use Rattle.paths.specs.Reads.{rowCount2}
-use Rattle.paths.specs.Tokens.{pathTokenOf}
+use Rattle.components.specs.Reads.{rowCount2}
+use Rattle.components.specs.Tokens.{pathTokenOf}
 use Rattle.faults.specs.Rules.{editionUnknown, headerMissing, firstByteWrong, versionWrong, typeIdWrong, stageOf, stageWrong, tokensNotWhole, tokenCount, tokensTooMany}
 use Rattle.faults.specs.Rules.{opcodeTooNew, opcodeNotForStage, destinationWrong, maskWrong, indexedWrong, directWrong, selectorsDiffer, matrixSwizzled, samplerWrong}
 

@@ -15,7 +15,7 @@ use Rattle.layout.specs.declared.record.IndexedSource.{IndexedSource}
 use Rattle.layout.specs.declared.record.Sampler.{Sampler}
 use Rattle.registers.specs.Uses.{isReadable, isWritable}
 use Rattle.registers.specs.Limits.{limitOf}
-use Rattle.paths.specs.Reads.{bitOf, nrm, crs, m33, m34, m44}
+use Rattle.components.specs.Reads.{bitOf, nrm, crs, m33, m34, m44}
 
 -- ---- the whole program: 1 to 8
 

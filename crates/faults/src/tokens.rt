@@ -10,10 +10,10 @@ ghost use Rattle.faults.specs.Faults.{numberOf, swizzleWrong, recordFaul
 use crate::profile::Profile;
 use crate::rules;
 use bytecode::answers::Refusal;
+use components::access;
 use layout::fields::Fields;
 use layout::opcodes::OperandShape;
 use layout::opcodes::Shape;
-use paths::access;
 
 // 10 and 11, then 14 to 19, of a record, from the fields that make it.
 pub fn own_fault(profile: Profile, token: usize, shape: Shape, f: Fields) -> Refusal

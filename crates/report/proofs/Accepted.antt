@@ -27,7 +27,7 @@ use Rattle.registers.specs.Counts.{countOf}
 use Rattle.registers.specs.Uses.{isReadable, isWritable}
 use Rattle.paths.specs.Paths.{Flow, plain, opener, els, eif}
 use Rattle.paths.specs.Nesting.{Branch, branchesAfter, misplaced, misplacedFrom}
-use Rattle.paths.specs.Reads.{rowCount2}
+use Rattle.components.specs.Reads.{rowCount2}
 use Rattle.listing.specs.Line.{samplerHasNames, destinationHasNames, operandHasNames, isNameable}
 use Rattle.faults.specs.Rules.{destinationWrong, samplerWrong, selectorsDiffer, matrixSwizzled, stageOf, tokenCount}
 use Rattle.faults.specs.Order.{Rule, sourceRules, tokenRules, recordOf, tokenAt, tokensFrom}

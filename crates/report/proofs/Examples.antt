@@ -9,8 +9,8 @@ use Rattle.layout.specs.Records.{signed, tokenOf}
 use Rattle.bytecode.specs.Decode.{unusedPart, undefinedPart}
 use Rattle.registers.specs.Counts.{countOf}
 use Rattle.registers.specs.Limits.{limitOf}
-use Rattle.paths.specs.Reads.{selectors1, selectors2, components2, rowCount2}
-use Rattle.paths.specs.Tokens.{flowOf}
+use Rattle.components.specs.Reads.{selectors1, selectors2, components2, rowCount2}
+use Rattle.components.specs.Tokens.{flowOf}
 use Rattle.paths.specs.Check.{checkFrom}
 use Rattle.listing.specs.Text.{ascii}
 use Rattle.listing.specs.Decimal.{decimal}

@@ -15,7 +15,7 @@ use Rattle.bytecode.specs.declared.answers.Decoded.the-variants.{Token as Accep
 use Rattle.layout.specs.declared.record.Token.{Token}
 use Rattle.laws.proofs.Every.{left, right}
 use Rattle.paths.specs.Paths.{Flow, plain, opener, els, eif}
-use Rattle.paths.specs.Tokens.{flowOf}
+use Rattle.components.specs.Tokens.{flowOf}
 use Rattle.verifier.specs.State.{flowOfCode}
 use Rattle.verifier.specs.declared.state.Flow.the-variants.{Els, Plain}
 use Rattle.verifier.proofs.Abstract.{flowIs, flow-is}

@@ -7,7 +7,7 @@ use Rattle.bytecode.specs.Decode.{decodeOf}
 use Rattle.bytecode.specs.declared.answers.Decoded.the-variants.{Token as Accepted}
 use Rattle.layout.specs.declared.record.Token.{Token}
 use Rattle.paths.specs.Paths.{Flow}
-use Rattle.paths.specs.Tokens.{flowOf}
+use Rattle.components.specs.Tokens.{flowOf}
 use Rattle.listing.specs.Line.{lineOf, isNameable}
 use Rattle.faults.specs.Order.{tokenAt, recordOf}
 use Rattle.report.specs.Depth.{shownDepth, openedAfter}

@@ -5,7 +5,7 @@ ghost use Prim.Native.Nat.{_+_, _-_, _*_, _≤_};
 ghost use lib.ListN.{length};
 ghost use Rattle.bytecode.specs.Decode.{decodeOf};
 ghost use Rattle.bytecode.specs.declared.answers.Decoded.the-variants.{Token as Accepted};
-ghost use Rattle.paths.specs.Tokens.{flowOf};
+ghost use Rattle.components.specs.Tokens.{flowOf};
 ghost use Rattle.listing.specs.Line.{lineOf, isNameable};
 ghost use Rattle.listing.specs.Writers.{Appends};
 ghost use Rattle.faults.specs.Rules.{tokenCount};

@@ -13,8 +13,8 @@ use Rattle.paths.specs.Paths.{Flow, plain, opener, els, eif}
 use Rattle.paths.specs.Nesting as nesting
 use Rattle.paths.specs.Nesting.{misplaced}
 use Rattle.paths.specs.Unwritten.{ComponentSet}
-use Rattle.paths.specs.Tokens.{flowOf}
-use Rattle.paths.specs.Written.{componentSet}
+use Rattle.components.specs.Tokens.{flowOf}
+use Rattle.components.specs.Written.{componentSet}
 use Rattle.paths.specs.Check as check
 use Rattle.verifier.specs.State.{flowOfCode, startState, blankBranch, slotOf, slotAfter, topOf, withTop, isMisplaced}
 use Rattle.verifier.specs.declared.state.Flow as code

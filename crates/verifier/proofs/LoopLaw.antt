@@ -11,7 +11,7 @@ use lib.Dec.{ltb}
 use lib.ListN.{length, take, drop, length-take, length-drop}
 use borrow.Author.Tests.{eq-eqb, ne-eqb}
 use Rattle.paths.specs.Unwritten.{nothing}
-use Rattle.paths.specs.Written.{componentSet, halfOf}
+use Rattle.components.specs.Written.{componentSet, halfOf}
 use Rattle.paths.specs.Faults as faults
 use Rattle.paths.specs.Check.{start, ending, checkFrom, verdictOf}
 use Rattle.faults.specs.Rules.{stageOf, tokenCount}

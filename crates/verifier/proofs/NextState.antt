@@ -14,12 +14,12 @@ use Rattle.layout.specs.declared.record.Destination.the-variants.{Unused as NoD
 use Rattle.paths.specs.Paths.{Flow, opener}
 use Rattle.paths.specs.Nesting.{branchesAfter}
 use Rattle.paths.specs.Unwritten.{ComponentSet, adds}
-use Rattle.paths.specs.Reads.{writesInto, temporaries}
-use Rattle.paths.specs.Written.{componentSet, joinOf, markOf}
+use Rattle.components.specs.Reads.{writesInto, temporaries}
+use Rattle.components.specs.Written.{componentSet, joinOf, markOf}
 use Rattle.paths.specs.Check as check
 use Rattle.paths.specs.Check.{currentAt, keptAt, keptAfter}
-use Rattle.paths.specs.declared.written.Written.{Written}
-use Rattle.paths.proofs.WrittenLaws.{in-join, in-written}
+use Rattle.components.specs.declared.written.Written.{Written}
+use Rattle.components.proofs.WrittenLaws.{in-join, in-written}
 use Rattle.verifier.specs.State.{blankBranch, slotOf, slotAfter, topOf, withTop, isMisplaced, joined, metTop, opened, partedTop, wroteTop, withCurrent}
 use Rattle.verifier.specs.declared.state.Flow as code
 use Rattle.verifier.specs.declared.state.Flow.the-variants.{Plain, Opener, Els, Eif}

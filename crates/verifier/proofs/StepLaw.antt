@@ -21,13 +21,13 @@ use Rattle.laws.proofs.Every.{below}
 use Rattle.paths.specs.Paths.{PathToken}
 use Rattle.paths.specs.Nesting.{misplaced}
 use Rattle.paths.specs.Faults.{Answer, refused}
-use Rattle.paths.specs.Reads.{reads1, reads2, writesInto, temporaries}
-use Rattle.paths.specs.Tokens.{flowOf, pathTokenOf}
-use Rattle.paths.specs.Access.{lacksAccess, access1Of, access2Of}
+use Rattle.components.specs.Reads.{reads1, reads2, writesInto, temporaries}
+use Rattle.components.specs.Tokens.{flowOf, pathTokenOf}
+use Rattle.components.specs.Access.{lacksAccess, access1Of, access2Of}
 use Rattle.paths.specs.Unwritten.{adds}
-use Rattle.paths.specs.Written.{componentSet}
+use Rattle.components.specs.Written.{componentSet}
 use Rattle.paths.specs.Check.{judge, lacks, setBefore, nextState, currentAt, checkFrom}
-use Rattle.paths.proofs.AccessLaws.{lacks-reads1, lacks-reads2}
+use Rattle.components.proofs.AccessLaws.{lacks-reads1, lacks-reads2}
 use Rattle.faults.specs.Rules.{destinationWrong}
 use Rattle.verifier.specs.State.{flowOfCode, topOf, withTop, isMisplaced, metTop, partedTop}
 use Rattle.verifier.specs.Step.{stepped, nextOf, followOf}

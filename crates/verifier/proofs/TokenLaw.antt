@@ -17,7 +17,7 @@ use Rattle.layout.specs.declared.record.Token.{Token}
 use Rattle.bytecode.proofs.DecodeLaws.{was-refused}
 use Rattle.registers.specs.Counts.{countOf}
 use Rattle.paths.specs.Paths.{TokenFault, PathToken}
-use Rattle.paths.specs.Tokens.{pathTokenOf}
+use Rattle.components.specs.Tokens.{pathTokenOf}
 use Rattle.paths.specs.Check.{checkFrom}
 use Rattle.faults.specs.Rules.{opcodeTooNew, opcodeNotForStage, destinationWrong}
 use Rattle.faults.specs.Profile.{profileOf}

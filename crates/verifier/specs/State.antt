@@ -4,8 +4,8 @@ use Prim.Native.Nat.{ℕ, _+_, _-_, _%_}
 use mathlib.Core.Bool.{Bool, true, false, cond, _||_}
 use lib.Dec.{eqb, ltb, leb}
 use lib.ListN.{getD, set, replicate}
-use Rattle.paths.specs.Written.{joinOf, markOf}
-use Rattle.paths.specs.declared.written.Written.{Written}
+use Rattle.components.specs.Written.{joinOf, markOf}
+use Rattle.components.specs.declared.written.Written.{Written}
 use Rattle.layout.specs.declared.record.MaskedRegister.{MaskedRegister}
 use Rattle.layout.specs.declared.record.Destination.{Destination}
 use Rattle.layout.specs.declared.record.Destination.the-variants.{Unused as NoDestination, Masked}

@@ -4,9 +4,9 @@ ghost use mathlib.Core.Path.{_≡_};
 ghost use Prim.Native.Nat.{_<_};
 ghost use Rattle.layout.specs.Records.{destinationOf};
 ghost use Rattle.verifier.specs.State.{flowOfCode, startState, slotOf, slotAfter, isMisplaced, exchanged as exchangedTop, joined as joinedTop, metTop, opened as openedTop, partedTop, marked as markedTop, wroteTop};
+use components::written;
+use components::written::Written;
 use layout::record::MaskedRegister;
-use paths::written;
-use paths::written::Written;
 
 // What a token does to branches.
 pub enum Flow {

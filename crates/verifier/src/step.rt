@@ -6,10 +6,10 @@ ghost use Rattle.verifier.specs.Step.{stepOf, takeOf, followOf};
 use crate::state;
 use crate::state::Top;
 use bytecode::answers::Refusal;
+use components::access;
 use faults::profile::Profile;
 use layout::fields::Fields;
 use layout::opcodes::Shape;
-use paths::access;
 
 // A fault with number 0 is none, and only then is the top the next one.
 pub struct Stepped {

@@ -1,0 +1,8 @@
+pub mod AccessFields
+pub mod AccessLaws
+pub mod Among
+pub mod Bits
+pub mod Lacking
+pub mod Numbers
+pub mod ReadCases
+pub mod WrittenLaws

@@ -1,0 +1,16 @@
+-- `chosen` meets its contract.
+-- Assumes nothing.
+use borrow.Author.Needs.{needs}
+use native.Mathlib.Omega.{arith}
+use lib.Pow.{shl-exact}
+use Rattle.components.proofs.access.chosen.Statement.{statement}
+use Rattle.components.proofs.access.chosen.Tie as tie
+
+shl-result : tie.Need-shl-result
+shl-result c = search needs
+
+returns : tie.Need-returns
+returns c = shl-exact 1 (c .args .component) 8 (omega arith) (omega arith)
+
+pub chosen-spec : {M : Type 1} → statement M
+chosen-spec = tie.close (tie.spec shl-result returns)

@@ -1,0 +1,89 @@
+-- `selectors1` meets its contract.
+-- Assumes nothing.
+use mathlib.Core.Path.{sym}
+use borrow.Author.Needs.{needs}
+use borrow.Author.Tests.{eq-eqb, ne-eqb}
+use Rattle.components.specs.Access.{selectorSet1}
+use Rattle.components.proofs.Among.{by-mask, by-three1, by-four1}
+use Rattle.components.proofs.access.selectors1.Statement.{statement}
+use Rattle.components.proofs.access.selectors1.Tie as tie
+
+among-requires : tie.Need-among-requires
+among-requires c κs = search needs
+
+returns : tie.Need-returns
+returns c = sym (by-mask _ _ _ (c .before .among .ensures) (c .if1 .taken))
+
+among-requires-2 : tie.Need-among-requires-2
+among-requires-2 c κs = search needs
+
+returns-2 : tie.Need-returns-2
+unfolding selectorSet1
+returns-2 c = simp (by-three1 (c .before .before .before .before .args .opcode) (c .before .among2 .ensures) (c .if2 .taken))
+
+among-requires-3 : tie.Need-among-requires-3
+among-requires-3 c κs = search needs
+
+returns-3 : tie.Need-returns-3
+unfolding selectorSet1
+returns-3 c =
+    let two = c .before .before in
+    let o = two .before .before .before .before .args .opcode in
+    simp (by-three1 o (two .before .among2 .ensures) (two .if2 .left), by-four1 o (c .before .among3 .ensures) (c .if3 .taken))
+
+returns-4 : tie.Need-returns-4
+unfolding selectorSet1
+returns-4 c =
+    let three = c .before in
+    let two = three .before .before in
+    let o = two .before .before .before .before .args .opcode in
+    simp (
+      by-three1 o (two .before .among2 .ensures) (two .if2 .left),
+      by-four1 o (three .before .among3 .ensures) (three .if3 .left),
+      eq-eqb _ _ (c .if4 .taken),
+    )
+
+coordinates-requires : tie.Need-coordinates-requires
+coordinates-requires c κs = search needs
+
+returns-5 : tie.Need-returns-5
+unfolding selectorSet1
+returns-5 c =
+    let three = c .before .before .before in
+    let two = three .before .before in
+    let o = two .before .before .before .before .args .opcode in
+    simp (
+      by-three1 o (two .before .among2 .ensures) (two .if2 .left),
+      by-four1 o (three .before .among3 .ensures) (three .if3 .left),
+      ne-eqb _ _ (c .before .before .if4 .left),
+      eq-eqb _ _ (c .before .if5 .taken),
+      c .coordinates .ensures,
+    )
+
+returns-6 : tie.Need-returns-6
+unfolding selectorSet1
+returns-6 c =
+    let three = c .before .before in
+    let two = three .before .before in
+    let o = two .before .before .before .before .args .opcode in
+    simp (
+      by-three1 o (two .before .among2 .ensures) (two .if2 .left),
+      by-four1 o (three .before .among3 .ensures) (three .if3 .left),
+      ne-eqb _ _ (c .before .if4 .left),
+      ne-eqb _ _ (c .if5 .left),
+    )
+
+pub selectors1-spec : {M : Type 1} → statement M
+selectors1-spec =
+    tie.close
+    (tie.spec
+    among-requires
+    returns
+    among-requires-2
+    returns-2
+    among-requires-3
+    returns-3
+    returns-4
+    coordinates-requires
+    returns-5
+    returns-6)

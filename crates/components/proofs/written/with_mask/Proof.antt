@@ -1,0 +1,26 @@
+-- `with_mask` meets its contract.
+-- Assumes nothing.
+use Prim.Native.Nat.{_*_, _%_}
+use borrow.Author.Needs.{needs}
+use native.Mathlib.Omega.{arith}
+use lib.Pow.{shl-exact}
+use Rattle.components.proofs.written.with_mask.Statement.{statement}
+use Rattle.components.proofs.written.with_mask.Tie as tie
+
+cast-result : tie.Need-cast-result
+cast-result c = search needs
+
+mul-result : tie.Need-mul-result
+mul-result c = search needs
+
+cast-result-2 : tie.Need-cast-result-2
+cast-result-2 c = search needs
+
+shl-result : tie.Need-shl-result
+shl-result c = search needs
+
+returns : tie.Need-returns
+returns c = rw (shl-exact {a = c .args .mask % 16} 4 (c .args .register % 16 * 4) 64 (omega arith) (omega arith))
+
+pub with-mask-spec : {M : Type 1} → statement M
+with-mask-spec = tie.close (tie.spec cast-result mul-result cast-result-2 shl-result returns)

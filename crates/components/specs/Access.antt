@@ -1,0 +1,99 @@
+-- Document 01, "Ways, reads and writes", as Reads states it, in the form that the code uses: a register, how many rows from it, and a set
+-- of components as a number. What each of these definitions stands for is proved of Reads.
+use Prim.Native.Nat.{ℕ, _*_, _/_, _%_, _^_}
+use mathlib.Core.Bool.{Bool, cond, _&&_}
+use mathlib.Core.List.{List, [], _∷_}
+use lib.Bits.{bitOr}
+use lib.Dec.{ltb, eqb}
+use Rattle.layout.specs.Opcodes.{isIn, kil, tex}
+use Rattle.layout.specs.declared.record.DirectSource.{DirectSource}
+use Rattle.layout.specs.declared.record.IndexedSource.{IndexedSource}
+use Rattle.layout.specs.declared.record.Operand.{Operand}
+use Rattle.layout.specs.declared.record.Operand.the-variants.{Unused as NoOperand, Direct, Indexed, Sampler as Sampled}
+use Rattle.layout.specs.declared.record.Token.{Token}
+use Rattle.components.specs.Reads.{Component, bitOf, maskComponents, rowsOf, maskOf, dimensionOf, rowCount2}
+use Rattle.components.specs.Reads.{m33, m34, m44, byThree1, byThree2, byFour1, byFour2}
+use Rattle.components.specs.Written.{lacksOf}
+use Rattle.components.specs.declared.written.Written.{Written}
+
+-- a register of some kind, how many rows from it, and the components that are read of each: bit 0 is x, bit 3 is w
+pub record Access : Type 0 where
+  pub kind : ℕ
+  pub register : ℕ
+  pub rows : ℕ
+  pub components : ℕ
+
+-- the components that an access stands for, rising
+abbrev pub accessed : Access → List Component
+accessed a = rowsOf (a .kind) (a .register) (a .rows) (maskComponents (a .components))
+
+-- an access reads a temporary component that is not written
+abbrev pub lacksAccess : Written → Access → Bool
+lacksAccess s a = eqb (a .kind) 2 && lacksOf s (a .register) (a .rows) (a .components)
+
+-- the set of components that a swizzle names by a set of selectors; bit i of either is component or selector i
+unfoldable pub namedSet : ℕ → ℕ → ℕ
+namedSet swizzle selectors =
+    bitOr
+    (bitOr (selectors % 2 * 2 ^ (swizzle % 4)) (selectors / 2 % 2 * 2 ^ (swizzle / 4 % 4)))
+    (bitOr (selectors / 4 % 2 * 2 ^ (swizzle / 16 % 4)) (selectors / 8 % 2 * 2 ^ (swizzle / 64 % 4)))
+
+-- a set of opcodes, bit by bit, has an opcode
+abbrev pub amongOf : ℕ → ℕ → Bool
+amongOf set opcode = ltb opcode 64 && bitOf set opcode
+
+-- "tex two for dimension 0, three for 1"
+abbrev pub coordinateSet : ℕ → ℕ
+coordinateSet dimension = cond (eqb dimension 0) 3 7
+
+-- `selectors1` as a set
+unfoldable pub selectorSet1 : ℕ → ℕ → ℕ → ℕ
+selectorSet1 opcode mask dimension =
+    cond (isIn opcode byThree1) 7
+    (cond (isIn opcode byFour1) 15
+    (cond (eqb opcode kil) 1
+    (cond (eqb opcode tex) (coordinateSet dimension) mask)))
+
+-- `selectors2` as a set
+unfoldable pub selectorSet2 : ℕ → ℕ → ℕ
+selectorSet2 opcode mask = cond (isIn opcode byThree2) 7 (cond (isIn opcode byFour2) 15 mask)
+
+-- `components2` as a set
+unfoldable pub readSet2 : ℕ → ℕ → ℕ → ℕ
+readSet2 opcode mask swizzle =
+    cond (eqb opcode m33) 7 (cond (isIn opcode (m34 ∷ m44 ∷ [])) 15 (namedSet swizzle (selectorSet2 opcode mask)))
+
+-- nothing is read
+abbrev pub noAccess : Access
+noAccess = record { kind = 0; register = 0; rows = 0; components = 0 }
+
+-- of an indexed source its index register
+abbrev pub indexAccess : IndexedSource → Access
+indexAccess s = record { kind = s .«index_kind»; register = s .number; rows = 1; components = 1 * 2 ^ (s .component % 4) }
+
+-- of a direct source some rows, and the components that its swizzle gives
+abbrev pub directAccess : ℕ → (ℕ → ℕ) → DirectSource → Access
+directAccess rows components s = record { kind = s .kind; register = s .number; rows = rows; components = components (s .swizzle) }
+
+-- what is read through an operand; rows and components are those of a direct source
+abbrev pub accessThrough : ℕ → (ℕ → ℕ) → Operand → Access
+accessThrough rows components NoOperand = noAccess
+accessThrough rows components (Direct s) = directAccess rows components s
+accessThrough rows components (Indexed s) = indexAccess s
+accessThrough rows components (Sampled s) = noAccess
+
+-- the components that a token reads through source 1 by a swizzle
+abbrev pub components1Of : Token → ℕ → ℕ
+components1Of t swizzle = namedSet swizzle (selectorSet1 (t .opcode) (maskOf (t .destination)) (dimensionOf (t .source2)))
+
+-- and through source 2
+abbrev pub components2Of : Token → ℕ → ℕ
+components2Of t swizzle = readSet2 (t .opcode) (maskOf (t .destination)) swizzle
+
+-- what a token reads through source 1
+abbrev pub access1Of : Token → Access
+access1Of t = accessThrough 1 (components1Of t) (t .source1)
+
+-- what it reads through source 2
+abbrev pub access2Of : Token → Access
+access2Of t = accessThrough (rowCount2 (t .opcode)) (components2Of t) (t .source2)

@@ -1,0 +1,4 @@
+pub mod Access
+pub mod Reads
+pub mod Tokens
+pub mod Written

@@ -1,0 +1,85 @@
+// Sets of written components of temporary registers.
+ghost use mathlib.Core.Path.{_≡_};
+ghost use Rattle.components.specs.Written.{halfOf, joinOf, marked, markOf, lacksRow, lacksOf};
+
+// Four bits for each register, its lowest for x: registers 0 to 15 in the low half, 16 to 31 in the high one.
+pub struct Written {
+    pub low: u64,
+    pub high: u64,
+}
+
+// What both sets have.
+pub fn join(a: Written, b: Written) -> Written
+    ensures { λ r. ⌜ r ≡ joinOf a b ⌝ }
+{
+    Written {
+        low: a.low & b.low,
+        high: a.high & b.high,
+    }
+}
+
+// A set with the components of a register's mask added. A register above 31 is not kept: no edition has one.
+pub fn mark(written: Written, register: u16, mask: u8) -> Written
+    ensures { λ r. ⌜ r ≡ markOf written register mask ⌝ }
+{
+    let register = register as u32;
+    if register < 16 {
+        let low = with_mask(written.low, register, mask);
+        return Written {
+            low,
+            high: written.high,
+        };
+    }
+    if register < 32 {
+        let high = with_mask(written.high, register, mask);
+        return Written {
+            low: written.low,
+            high,
+        };
+    }
+    written
+}
+
+// The half that a register is in, with the components of a mask added to the register's.
+fn with_mask(half: u64, register: u32, mask: u8) -> u64
+    ensures { λ r. ⌜ r ≡ marked half register mask ⌝ }
+{
+    half | (((mask % 16) as u64) << (register % 16 * 4))
+}
+
+// Whether one of `rows` registers, from `register` on, lacks one of the components.
+pub fn lacks(written: Written, register: u16, rows: u8, components: u8) -> bool
+    ensures { λ r. ⌜ r ≡ lacksOf written register rows components ⌝ }
+{
+    let mut row = register as u32;
+    let end = row + rows as u32;
+    while row < end {
+        if lacks_row(written, row, components) {
+            return true;
+        }
+        row += 1;
+    }
+    false
+}
+
+// Whether a register lacks one of the components.
+fn lacks_row(written: Written, register: u32, components: u8) -> bool
+    ensures { λ r. ⌜ r ≡ lacksRow written register components ⌝ }
+{
+    let asked = (components % 16) as u64;
+    let there = half_of(written, register) >> (register % 16 * 4);
+    (asked & there) != asked
+}
+
+// The half that a register is in; one above 31 has nothing written.
+fn half_of(written: Written, register: u32) -> u64
+    ensures { λ r. ⌜ r ≡ halfOf written register ⌝ }
+{
+    if register < 16 {
+        return written.low;
+    }
+    if register < 32 {
+        return written.high;
+    }
+    0
+}
