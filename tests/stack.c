@@ -31,7 +31,10 @@ static void *check(void *unused)
 static void *report(void *unused)
 {
     static uint8_t out[AGAL_REPORT_MAX];
-    return agal_report(input, sizeof input, out, sizeof out).number == 0 ? unused : NULL;
+    /* Straight to the buffer, and with the text measured before. */
+    int right = agal_report(input, sizeof input, out, sizeof out).number == 0;
+    right = agal_report(input, sizeof input, out, sizeof out - 1).number == 0 && right;
+    return right ? unused : NULL;
 }
 
 static void *other(void *unused)

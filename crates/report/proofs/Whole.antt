@@ -1,23 +1,21 @@
--- The whole text from its lines, and what report's answer is from the text.
+-- What opens the text, and what report's answer is from the text.
 -- Assumes nothing.
-use Prim.Native.Nat.{ℕ, _+_, _-_, _*_, _≤_, _<_}
+use Prim.Native.Nat.{ℕ, _-_, _≤_, _<_}
 use mathlib.Core.Bool.{true, false}
-use mathlib.Core.List.{List}
-use mathlib.Core.Path.{_≡_, _∙_, sym, ap, subst}
+use mathlib.Core.List.{List, [], _++_, append-nil}
+use mathlib.Core.Path.{_≡_, refl, _∙_, sym, ap, subst}
 use native.Mathlib.Omega.{arith}
-use lib.Dec.{leb, lit≤}
-use lib.ListN.{length, take, drop, getD, length-drop}
-use lib.Seq.{take-length}
+use lib.Dec.{leb}
+use lib.ListN.{length, take, drop, getD}
 use borrow.Author.Tests.{lt-ltb, le-ltb, eq-eqb, ne-eqb, leb-true}
 use Rattle.bytecode.specs.Decode.{refusal}
 use Rattle.bytecode.specs.declared.answers.Refusal.{Refusal}
 use Rattle.laws.proofs.Every.{left, right}
-use Rattle.listing.specs.First.{headingLine, faultLine, firstLine}
+use Rattle.listing.specs.First.{headingLine, firstLine}
 use Rattle.listing.specs.Printing.{Prints}
 use Rattle.listing.specs.declared.answers.Printed.{Printed}
-use Rattle.listing.specs.declared.first.First.the-variants.{NoEdition, InputTooLong}
-use Rattle.listing.specs.Writers.{Appends}
-use Rattle.listing.proofs.Writing.{_then_, within}
+use Rattle.listing.specs.declared.first.First.{First}
+use Rattle.listing.specs.declared.first.First.the-variants.{Accepted as AcceptedLine, Refused as RefusedLine, NoEdition, InputTooLong}
 use Rattle.faults.specs.Rules.{tokenCount}
 use Rattle.verifier.specs.Verdict.{verdict}
 use Rattle.verifier.specs.declared.answers.Program.{Program}
@@ -25,7 +23,13 @@ use Rattle.verifier.specs.declared.answers.Checked.the-variants.{Accepted, Refu
 use Rattle.report.specs.Lines.{linesFrom, Listable}
 use Rattle.report.specs.Text.{answerText, faultOf, isEdition, editionOf, textOf}
 use Rattle.report.specs.Report.{Reports}
+use Rattle.report.specs.Writers.{linesAfter, HasLines, Opens}
 use Rattle.report.proofs.Accepted.{lists}
+use Rattle.report.proofs.FirstLine.{after-digit}
+
+-- no lines after the first one
+alone : {text bytes : List ℕ} (f : First) → text ≡ firstLine f → linesAfter f bytes ≡ [] → HasLines f bytes → Opens text bytes f
+alone f e none lines = record { whole = e ∙ sym (append-nil (firstLine f)) ∙ ap (λ l. firstLine f ++ l) (sym none); lines = lines }
 
 -- ---- what the check answers
 
@@ -42,20 +46,19 @@ module _ (edition : ℕ) (bytes : List ℕ) (few : length bytes ≤ 49159) where
     pub tokens-few : p .tokens < 65536
     tokens-few = omega (arith, tokens-are)
 
-    pub has-lines : Listable (p .stage) bytes 0 (tokenCount bytes) 0
-    has-lines = subst (λ k. Listable (p .stage) bytes 0 k 0) tokens-are (program-listable edition bytes p e)
+    pub accepted-opens : Opens (answerText edition bytes (verdict edition bytes)) bytes (AcceptedLine (record { edition = edition; stage = p .stage; tokens = p .tokens }))
+    accepted-opens =
+        record {
+          whole = ap (answerText edition bytes) e ∙ ap (λ k. headingLine (record { edition = edition; stage = p .stage; tokens = p .tokens }) ++ linesFrom (p .stage) bytes 0 k 0) tokens-are;
+          lines = record {
+            header = lists edition bytes p e .header;
+            few = omega (arith, few);
+            lines = subst (λ k. Listable (p .stage) bytes 0 k 0) tokens-are (program-listable edition bytes p e);
+          };
+        }
 
-    pub accepted-text : {at q r : ℕ} {l m n : List ℕ} → Appends (headingLine (record { edition = edition; stage = p .stage; tokens = p .tokens })) 34 at l m q
-        → Appends (linesFrom (p .stage) bytes 0 (tokenCount bytes) 0) (128 * tokenCount bytes) q m n r
-        → Appends (answerText edition bytes (verdict edition bytes)) 262178 at l n r
-    accepted-text {at} {q} {r} {l} {m} {n} a b =
-        subst (λ v. Appends (answerText edition bytes v) 262178 at l n r) (sym e)
-        (within 262178 (omega arith) (a then subst (λ k. Appends (linesFrom (p .stage) bytes 0 k 0) (128 * tokenCount bytes) q m n r) (sym tokens-are) b))
-
-  pub refused-text : (f : Refusal) → verdict edition bytes ≡ Refused f → {at r : ℕ} {l n : List ℕ} → Appends (faultLine (faultOf f)) 34 at l n r
-      → Appends (answerText edition bytes (verdict edition bytes)) 262178 at l n r
-  refused-text f e {at} {r} {l} {n} a =
-      subst (λ v. Appends (answerText edition bytes v) 262178 at l n r) (sym e) (within 262178 (lit≤ tt) a)
+  pub refused-opens : (f : Refusal) → verdict edition bytes ≡ Refused f → Opens (answerText edition bytes (verdict edition bytes)) bytes (RefusedLine (faultOf f))
+  refused-opens f e = alone (RefusedLine (faultOf f)) (ap (answerText edition bytes) e) refl tt
 
 -- ---- the tests in their order
 
@@ -63,28 +66,27 @@ pub edition-range : (b : ℕ) → isEdition b ≡ true → (49 ≤ b) × (b ≤ 
 edition-range b e = (leb-true 49 b (left (leb 49 b) (leb b 51) e), leb-true b 51 (right (leb 49 b) (leb b 51) e))
 
 module _ (input : List ℕ) where
-  pub too-long : 49160 < length input → textOf input ≡ firstLine InputTooLong
+  pub too-long : 49160 < length input → Opens (textOf input) (drop 1 input) InputTooLong
   unfolding textOf
-  too-long h = simp (lt-ltb 49160 (length input) h)
+  too-long h = alone InputTooLong (simp (lt-ltb 49160 (length input) h)) refl tt
 
   module _ (h : length input ≤ 49160) where
-    pub no-edition : length input ≡ 0 → textOf input ≡ firstLine NoEdition
+    pub no-edition : length input ≡ 0 → Opens (textOf input) (drop 1 input) NoEdition
     unfolding textOf
-    no-edition e = simp (le-ltb 49160 (length input) h, eq-eqb (length input) 0 e)
+    no-edition e = alone NoEdition (simp (le-ltb 49160 (length input) h, eq-eqb (length input) 0 e)) refl tt
 
     module _ (n : length input ≡ 0 → ⊥) where
-      pub other-byte : isEdition (getD input 0 0) ≡ false → textOf input ≡ faultLine (faultOf (refusal 1 0 0))
+      pub other-byte : isEdition (getD input 0 0) ≡ false → Opens (textOf input) (drop 1 input) (RefusedLine (faultOf (refusal 1 0 0)))
       unfolding textOf
-      other-byte e = rw (le-ltb 49160 (length input) h, ne-eqb (length input) 0 n, e)
+      other-byte e = alone (RefusedLine (faultOf (refusal 1 0 0))) (rw (le-ltb 49160 (length input) h, ne-eqb (length input) 0 n, e)) refl tt
 
-      -- the bytes after the digit, as the code cuts them out
-      pub after-digit : take (length input - 1) (drop 1 input) ≡ drop 1 input
-      after-digit = ap (λ k. take k (drop 1 input)) (sym (length-drop 1 input)) ∙ take-length (drop 1 input)
-
-      pub with-edition : (edition : ℕ) → edition ≡ editionOf (getD input 0 0) → isEdition (getD input 0 0) ≡ true
-          → textOf input ≡ answerText edition (take (length input - 1) (drop 1 input)) (verdict edition (take (length input - 1) (drop 1 input)))
+      pub with-edition : (edition : ℕ) → edition ≡ editionOf (getD input 0 0) → isEdition (getD input 0 0) ≡ true → {first : First}
+          → Opens (answerText edition (take (length input - 1) (drop 1 input)) (verdict edition (take (length input - 1) (drop 1 input)))) (take (length input - 1) (drop 1 input)) first
+          → Opens (textOf input) (drop 1 input) first
       unfolding textOf
-      with-edition edition d e = rw (le-ltb 49160 (length input) h, ne-eqb (length input) 0 n, e, after-digit, d)
+      with-edition edition d e {first} o =
+          rw (le-ltb 49160 (length input) h, ne-eqb (length input) 0 n, e, ← d)
+          (subst (λ b. Opens (answerText edition b (verdict edition b)) b first) (after-digit input) o)
 
 -- ---- report
 
@@ -92,11 +94,3 @@ pub reported : {input before after : List ℕ} {r : Printed} → Prints (textOf 
     → Reports input before after r
 reported {input} (p, s) =
     record { prints = p; short = s; listable = program-listable (editionOf (getD input 0 0)) (drop 1 input) }
-
--- ---- lengths, apart from the array of 262,178 bytes
-
-pub room-in : (l : List ℕ) → length l ≡ 262178 → 262178 ≤ length l
-room-in l e = omega (arith, e)
-
-pub inside : (n : ℕ) (l : List ℕ) → n ≤ 0 + 262178 → length l ≡ 262178 → n ≤ length l
-inside n l h e = omega (arith, h, e)

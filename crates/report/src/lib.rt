@@ -1,4 +1,5 @@
 // The whole text that agallist prints.
+mod opening;
 mod reporting;
 mod tokens;
 

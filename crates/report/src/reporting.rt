@@ -1,113 +1,77 @@
 // The text that agallist prints, into a lent buffer.
-ghost use mathlib.Core.Path.{_≡_};
-ghost use Prim.Native.Nat.{_≤_, _<_};
-ghost use lib.ListN.{length};
+ghost use lib.ListN.{length, drop};
 ghost use Rattle.listing.specs.First.{firstLine};
-ghost use Rattle.listing.specs.Writers.{Appends};
-ghost use Rattle.verifier.specs.Verdict.{verdict};
-ghost use Rattle.report.specs.Text.{answerText, faultOf, isEdition as isEditionDigit, editionOf, textOf};
+ghost use Rattle.report.specs.Text.{textOf};
 ghost use Rattle.report.specs.Report.{Reports};
+ghost use Rattle.report.specs.Writers.{Opens, HasRoom, Measured, Fits, Puts};
+use crate::opening;
 use crate::tokens;
 use bytecode::answers::Refusal;
 use listing::answers::Printed;
-use listing::first::Fault;
 use listing::first::First;
-use listing::first::Heading;
-use verifier::answers::Checked;
 
 // From an edition digit and a program's bytes. A buffer that is too short for the whole text keeps every byte.
 pub fn report(input: &[u8], out: &mut [u8]) -> Printed
     ensures { λ r. ⌜ Reports (now (input .entry)) (now (out .entry)) (now (out .exit)) r ⌝ }
 {
-    // No text is longer: a first line, and 2048 token lines.
-    if 262178 <= out.len() {
-        return Printed::Length(put_text(out, input));
-    }
-    report_by_copy(input, out)
-}
-
-// Its length is known once it is written, so where the buffer may be too short it is written to an array first.
-fn report_by_copy(input: &[u8], out: &mut [u8]) -> Printed
-    ensures { λ r. ⌜ Reports (now (input .entry)) (now (out .entry)) (now (out .exit)) r ⌝ }
-{
-    let mut whole = [0u8; 262178];
-    let n = put_text(&mut whole, input);
-    listing::print(&whole[..n], out)
-}
-
-fn put_text(out: &mut [u8], input: &[u8]) -> usize
-    requires { ⌜ 262178 ≤ length (now out) ⌝ }
-    ensures { λ r. ⌜ Appends (textOf (now (input .entry))) 262178 0 (now (out .entry)) (now (out .exit)) r ⌝ }
-{
-    if 49160 < input.len() {
-        return put_first(out, First::InputTooLong);
-    }
-    if input.len() == 0 {
-        return put_first(out, First::NoEdition);
-    }
-    let digit = input[0];
-    if !is_edition(digit) {
-        let fault = Fault {
-            number: 1,
+    let first = opening::first_of(input);
+    if !fits(out.len(), first, input) {
+        let short = Refusal {
+            number: 23,
             token: 0,
             part: 0,
         };
-        return put_first(out, First::Refused(fault));
+        return Printed::Refused(short);
     }
-    let edition = edition_of(digit);
-    put_answer(out, edition, &input[1..])
+    Printed::Length(put_text(out, first, input))
 }
 
-fn is_edition(digit: u8) -> bool
-    ensures { λ r. ⌜ r ≡ isEditionDigit digit ⌝ }
+// Whether so many bytes are room for the text. Its length is known once it is written, so it is measured first, but not where there is room
+// for any text: for a first line, and 2048 token lines.
+fn fits(room: usize, first: First, input: &[u8]) -> bool
+    requires { ⌜ Opens (textOf (now input)) (drop 1 (now input)) first ⌝ }
+    ensures { λ r. ⌜ Fits (textOf (now (input .entry))) room r ⌝ }
 {
-    (b'1' <= digit) & (digit <= b'3')
+    if 262178 <= room {
+        return true;
+    }
+    text_length(first, input) <= room
 }
 
-// The edition that a digit names.
-fn edition_of(digit: u8) -> u16
-    requires { ⌜ (49 ≤ digit) × (digit ≤ 51) ⌝ }
-    ensures { λ r. ⌜ r ≡ editionOf digit ⌝ }
+fn text_length(first: First, input: &[u8]) -> usize
+    requires { ⌜ Opens (textOf (now input)) (drop 1 (now input)) first ⌝ }
+    ensures { λ r. ⌜ Measured (textOf (now (input .entry))) 262178 r ⌝ }
 {
-    (digit - b'0') as u16
-}
-
-// What the check answers. As many bytes hold at most 2048 tokens.
-fn put_answer(out: &mut [u8], edition: u16, bytes: &[u8]) -> usize
-    requires { ⌜ 262178 ≤ length (now out) ⌝ }
-    requires { ⌜ length (now bytes) ≤ 49159 ⌝ }
-    ensures { λ r. ⌜ Appends (answerText edition (now (bytes .entry)) (verdict edition (now (bytes .entry)))) 262178 0 (now (out .entry)) (now (out .exit)) r ⌝ }
-{
-    match verifier::check(edition as u32, bytes) {
-        Checked::Accepted(program) => {
-            let heading = Heading {
-                edition,
-                stage: program.stage,
-                tokens: program.tokens as u16,
-            };
-            let p = put_first(out, First::Accepted(heading));
-            tokens::put_tokens(out, p, program.stage, bytes)
-        }
-        Checked::Refused(r) => put_first(out, First::Refused(fault_of(r))),
+    let n = first_length(first);
+    match first {
+        First::Accepted(heading) => n + tokens::tokens_length(heading.stage, &input[1..]),
+        _ => n,
     }
 }
 
-// A refusal of a program whose tokens 16 bits can number.
-fn fault_of(r: Refusal) -> Fault
-    requires { ⌜ r .token < 65536 ⌝ }
-    ensures { λ f. ⌜ f ≡ faultOf r ⌝ }
+fn first_length(first: First) -> usize
+    ensures { λ r. ⌜ Measured (firstLine first) 34 r ⌝ }
 {
-    Fault {
-        number: r.number,
-        token: r.token as u16,
-        part: r.part,
+    let mut line = [0u8; 34];
+    put_first(&mut line, first)
+}
+
+// The first line, and the token lines of a program that is accepted.
+fn put_text(out: &mut [u8], first: First, input: &[u8]) -> usize
+    requires { ⌜ Opens (textOf (now input)) (drop 1 (now input)) first ⌝ }
+    requires { ⌜ HasRoom (textOf (now input)) 262178 0 (length (now out)) ⌝ }
+    ensures { λ r. ⌜ Puts (textOf (now (input .entry))) 262178 0 (now (out .entry)) (now (out .exit)) r ⌝ }
+{
+    let p = put_first(out, first);
+    match first {
+        First::Accepted(heading) => tokens::put_tokens(out, p, heading.stage, &input[1..]),
+        _ => p,
     }
 }
 
-// The first line into a buffer that has the room for it.
 fn put_first(out: &mut [u8], first: First) -> usize
-    requires { ⌜ 34 ≤ length (now out) ⌝ }
-    ensures { λ r. ⌜ Appends (firstLine first) 34 0 (now (out .entry)) (now (out .exit)) r ⌝ }
+    requires { ⌜ HasRoom (firstLine first) 34 0 (length (now out)) ⌝ }
+    ensures { λ r. ⌜ Puts (firstLine first) 34 0 (now (out .entry)) (now (out .exit)) r ⌝ }
 {
     match listing::first_line(first, out) {
         Printed::Length(n) => n,

@@ -1,17 +1,16 @@
 // The token lines of a listing.
 ghost use mathlib.Core.Bool.{true};
 ghost use mathlib.Core.Path.{_≡_};
-ghost use Prim.Native.Nat.{_+_, _-_, _*_, _≤_};
+ghost use Prim.Native.Nat.{_-_, _*_, _≤_};
 ghost use lib.ListN.{length};
 ghost use Rattle.bytecode.specs.Decode.{decodeOf};
 ghost use Rattle.bytecode.specs.declared.answers.Decoded.the-variants.{Token as Accepted};
 ghost use Rattle.components.specs.Tokens.{flowOf};
 ghost use Rattle.listing.specs.Line.{lineOf, isNameable};
-ghost use Rattle.listing.specs.Writers.{Appends};
 ghost use Rattle.faults.specs.Rules.{tokenCount};
 ghost use Rattle.faults.specs.Order.{tokenAt, recordOf};
 ghost use Rattle.report.specs.Depth.{shownDepth, openedAfter};
-ghost use Rattle.report.specs.Lines.{linesFrom, Listable};
+ghost use Rattle.report.specs.Writers.{Listed, HasRoom, Puts, Measured, allLines};
 use bytecode::answers::Decoded;
 use layout::record::Destination;
 use layout::record::Operand;
@@ -20,10 +19,9 @@ use listing::answers::Printed;
 
 // A line for each token, none of which has more than 128 bytes.
 pub(crate) fn put_tokens(out: &mut [u8], at: usize, stage: u8, bytes: &[u8]) -> usize
-    requires { ⌜ 7 ≤ length (now bytes) ⌝ }
-    requires { ⌜ at + 128 * tokenCount (now bytes) ≤ length (now out) ⌝ }
-    requires { ⌜ Listable stage (now bytes) 0 (tokenCount (now bytes)) 0 ⌝ }
-    ensures { λ r. ⌜ Appends (linesFrom stage (now (bytes .entry)) 0 (tokenCount (now (bytes .entry))) 0) (128 * tokenCount (now (bytes .entry))) at (now (out .entry)) (now (out .exit)) r ⌝ }
+    requires { ⌜ Listed stage (now bytes) ⌝ }
+    requires { ⌜ HasRoom (allLines stage (now bytes)) (128 * tokenCount (now bytes)) at (length (now out)) ⌝ }
+    ensures { λ r. ⌜ Puts (allLines stage (now (bytes .entry))) (128 * tokenCount (now (bytes .entry))) at (now (out .entry)) (now (out .exit)) r ⌝ }
 {
     let count = (bytes.len() - 7) / 24;
     let mut place = at;
@@ -37,6 +35,25 @@ pub(crate) fn put_tokens(out: &mut [u8], at: usize, stage: u8, bytes: &[u8]) -> 
         token += 1;
     }
     place
+}
+
+// How many bytes put_tokens writes.
+pub(crate) fn tokens_length(stage: u8, bytes: &[u8]) -> usize
+    requires { ⌜ Listed stage (now bytes) ⌝ }
+    ensures { λ r. ⌜ Measured (allLines stage (now (bytes .entry))) (128 * tokenCount (now (bytes .entry))) r ⌝ }
+{
+    let count = (bytes.len() - 7) / 24;
+    let mut total = 0;
+    let mut opened = 0;
+    let mut token = 0;
+    while token < count {
+        let record = token_at(bytes, token);
+        let depth = shown_depth(record.opcode, opened);
+        total += line_length(record, stage, depth);
+        opened = opened_after(record.opcode, opened);
+        token += 1;
+    }
+    total
 }
 
 // The record of a token that decode does not refuse.
@@ -62,14 +79,23 @@ fn blank() -> Token {
 
 // The line of a record that has one.
 fn put_line(out: &mut [u8], at: usize, token: Token, stage: u8, depth: u8) -> usize
-    requires { ⌜ at + 128 ≤ length (now out) ⌝ }
     requires { ⌜ isNameable token stage depth ≡ true ⌝ }
-    ensures { λ r. ⌜ Appends (lineOf token stage depth) 128 at (now (out .entry)) (now (out .exit)) r ⌝ }
+    requires { ⌜ HasRoom (lineOf token stage depth) 128 at (length (now out)) ⌝ }
+    ensures { λ r. ⌜ Puts (lineOf token stage depth) 128 at (now (out .entry)) (now (out .exit)) r ⌝ }
 {
     match listing::line(token, stage, depth, &mut out[at..]) {
         Printed::Length(n) => at + n,
         Printed::Refused(_) => at,
     }
+}
+
+// How many bytes put_line writes.
+fn line_length(token: Token, stage: u8, depth: u8) -> usize
+    requires { ⌜ isNameable token stage depth ≡ true ⌝ }
+    ensures { λ r. ⌜ Measured (lineOf token stage depth) 128 r ⌝ }
+{
+    let mut line = [0u8; 128];
+    put_line(&mut line, 0, token, stage, depth)
 }
 
 // Els, 20, and eif, 21, stand at the depth of their opener.

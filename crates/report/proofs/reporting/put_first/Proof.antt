@@ -3,7 +3,7 @@
 use borrow.Author.Needs.{needs}
 use native.Mathlib.Omega.{arith}
 use Rattle.listing.proofs.PrintLaws.{appended, not-refused}
-use Rattle.listing.proofs.Writing.{within}
+use Rattle.report.proofs.Room.{room-for, exactly}
 use Rattle.report.proofs.reporting.put_first.Statement.{statement}
 use Rattle.report.proofs.reporting.put_first.Tie as tie
 
@@ -21,8 +21,9 @@ same-length c = search needs
 
 returns : tie.Need-returns
 returns c =
-    let first = c .before .before .before .before .before .first-line .ensures in
-    within 34 (first .1) (appended (first .0) (omega (arith, first .1, c .before .before .before .before .before .before .before .before .pre)) _ (c .before .n .given .1))
+    let first = c .before .before .before .before .before .first-line in
+    let room = room-for _ (first .ensures .1) (c .before .before .before .before .before .before .before .before .pre) in
+    exactly (appended (first .ensures .0) (omega (arith, room)) _ (c .before .n .given .1)) (first .ensures .1) room (first .kept .1 .0)
 
 same-length-2 : tie.Need-same-length-2
 same-length-2 c = search needs
@@ -30,7 +31,7 @@ same-length-2 c = search needs
 returns-2 : tie.Need-returns-2
 returns-2 c =
     let first = c .before .before .before .before .first-line .ensures in
-    absurd (not-refused (first .0) (omega (arith, first .1, c .before .before .before .before .before .before .before .pre)) _ (c .enum-told .given .1))
+    absurd (not-refused (first .0) (omega (arith, room-for _ (first .1) (c .before .before .before .before .before .before .before .pre))) _ (c .enum-told .given .1))
 
 pub put-first-spec : {M : Type 1} → statement M
 put-first-spec =

@@ -4,14 +4,15 @@ use borrow.Author.Needs.{needs}
 use native.Mathlib.Omega.{arith}
 use denote.Ref.{now}
 use Rattle.report.proofs.Lined.{lined, has-line}
+use Rattle.report.proofs.Room.{place-in, ends-in}
 use Rattle.report.proofs.tokens.put_line.Statement.{statement}
 use Rattle.report.proofs.tokens.put_line.Tie as tie
 
 sub-line : tie.Need-sub-line
-sub-line c = search needs
+sub-line c = search (needs, place-in _ (c .before .pre .1))
 
 part-line-start : tie.Need-part-line-start
-part-line-start c = search needs
+part-line-start c = place-in _ (c .before .pre .1)
 
 part-line-end : tie.Need-part-line-end
 part-line-end c = search needs
@@ -24,9 +25,10 @@ enum-known-n c = search needs
 
 add-result : tie.Need-add-result
 add-result c =
-    let a = c .before .before .before .before .before .before .before .before .args in
-    let wrote = lined _ _ _ (c .before .before .before .before .before .before .before .before .pre .1) (now (a .out)) (a .at) (c .before .before .before .before .before .before .before .before .pre .0) (c .before .before .before .before .before .line .ensures) (c .before .before .before .before .before .line .kept .1 .1 .1 .0) _ (c .before .n .given .1) in
-    omega (arith, wrote .room)
+    let start = c .before .before .before .before .before .before .before .before in
+    let line = c .before .before .before .before .before .line in
+    let wrote = lined _ _ _ (start .pre .0) (now (start .args .out)) (start .args .at) (start .pre .1) (line .ensures) (line .kept .1 .1 .1 .0) _ (c .before .n .given .1) (search needs) in
+    omega (arith, ends-in (start .pre .1) wrote)
 
 enum-told : tie.Need-enum-told
 enum-told c = search needs
@@ -36,16 +38,17 @@ same-length c = search needs
 
 returns : tie.Need-returns
 returns c =
-    let a = c .before .before .before .before .before .before .before .before .args in
-    lined _ _ _ (c .before .before .before .before .before .before .before .before .pre .1) (now (a .out)) (a .at) (c .before .before .before .before .before .before .before .before .pre .0) (c .before .before .before .before .before .line .ensures) (c .before .before .before .before .before .line .kept .1 .1 .1 .0) _ (c .before .n .given .1)
+    let start = c .before .before .before .before .before .before .before .before in
+    let line = c .before .before .before .before .before .line in
+    lined _ _ _ (start .pre .0) (now (start .args .out)) (start .args .at) (start .pre .1) (line .ensures) (line .kept .1 .1 .1 .0) _ (c .before .n .given .1) (search needs)
 
 same-length-2 : tie.Need-same-length-2
 same-length-2 c = search needs
 
 returns-2 : tie.Need-returns-2
 returns-2 c =
-    let a = c .before .before .before .before .before .before .before .args in
-    absurd (has-line _ _ _ (c .before .before .before .before .before .before .before .pre .1) (now (a .out)) (a .at) (c .before .before .before .before .before .before .before .pre .0) (c .before .before .before .before .line .ensures) _ (c .enum-told .given .1))
+    let start = c .before .before .before .before .before .before .before in
+    absurd (has-line _ _ _ (start .pre .0) (now (start .args .out)) (start .args .at) (start .pre .1) (c .before .before .before .before .line .ensures) _ (c .enum-told .given .1))
 
 pub put-line-spec : {M : Type 1} → statement M
 put-line-spec =

@@ -1,0 +1,74 @@
+-- A text that opens with a first line.
+-- Assumes nothing.
+use Prim.Native.Nat.{ℕ, _+_, _-_, _*_, _≤_}
+use mathlib.Core.List.{List, [], _∷_, _++_, append-nil}
+use mathlib.Core.Path.{_≡_, refl, _∙_, sym, ap, subst}
+use native.Mathlib.Omega.{arith}
+use types.Run.{OneOf, miss}
+use denote.Enum.Declared.{tagOf}
+use lib.Dec.{lit≤}
+use lib.ListN.{length, take, drop, length-drop}
+use lib.Seq.{take-length}
+use Rattle.listing.specs.First.{firstLine}
+use Rattle.listing.specs.declared.first.First.{First}
+use Rattle.listing.specs.declared.first.First.the-variants.{Accepted, Refused, NoEdition, InputTooLong}
+use Rattle.listing.specs.declared.first.Heading.{Heading}
+use Rattle.listing.proofs.first.First.{the-type}
+use Rattle.faults.specs.Rules.{tokenCount}
+use Rattle.report.specs.Writers.{allLines, Listed, linesAfter, HasLines, Opens, HasRoom, Puts, Measured}
+use Rattle.report.proofs.Room.{front, behind, in-turn, add-lengths}
+
+-- the program's bytes, as the code cuts them out after the digit
+pub after-digit : (input : List ℕ) → take (length input - 1) (drop 1 input) ≡ drop 1 input
+after-digit input = ap (λ k. take k (drop 1 input)) (sym (length-drop 1 input)) ∙ take-length (drop 1 input)
+
+-- so what is known of them is known of what is cut out
+pub cut : {text : List ℕ} {first : First} (input : List ℕ) → Opens text (drop 1 input) first → Opens text (take (length input - 1) (drop 1 input)) first
+cut {text} {first} input o = subst (λ b. Opens text b first) (sym (after-digit input)) o
+
+-- a first line that is not an accepted program's, by the code's numbers for the four kinds
+abbrev IsAlone : First → Type 0
+IsAlone f = OneOf (1 ∷ 2 ∷ 3 ∷ []) (tagOf the-type f)
+
+-- no line comes after it
+none-after : (f : First) (bytes : List ℕ) → IsAlone f → linesAfter f bytes ≡ []
+none-after (Accepted h) bytes k = absurd (miss (1 ∷ 2 ∷ 3 ∷ []) 0 tt k)
+none-after (Refused f) bytes k = refl
+none-after NoEdition bytes k = refl
+none-after InputTooLong bytes k = refl
+
+module _ {text bytes : List ℕ} {first : First} (o : Opens text bytes first) where
+  -- where there is room for the text, there is room for its first line
+  pub first-room : {size : ℕ} → HasRoom text 262178 0 size → HasRoom (firstLine first) 34 0 size
+  first-room {size} r = front (firstLine first) (linesAfter first bytes) 34 (lit≤ tt) (subst (λ t. HasRoom t 262178 0 size) (o .whole) r)
+
+  -- a first line alone is the text
+  pub only : IsAlone first → text ≡ firstLine first
+  only k = o .whole ∙ ap (λ l. firstLine first ++ l) (none-after first bytes k) ∙ append-nil (firstLine first)
+
+  -- the token lines of an accepted program follow
+  module _ {h : Heading} (e : first ≡ Accepted h) where
+    pub listed : Listed (h .stage) bytes
+    listed = subst (λ f. HasLines f bytes) e (o .lines)
+
+    two-parts : text ≡ firstLine first ++ allLines (h .stage) bytes
+    two-parts = o .whole ∙ ap (λ f. firstLine first ++ linesAfter f bytes) e
+
+    most : 34 + 128 * tokenCount bytes ≤ 262178
+    most = omega (arith, listed .few)
+
+    pub lines-room : {p size : ℕ} {l m : List ℕ} → HasRoom text 262178 0 size → Puts (firstLine first) 34 0 l m p
+        → HasRoom (allLines (h .stage) bytes) (128 * tokenCount bytes) p size
+    lines-room {size = size} r a = behind (firstLine first) _ most a (subst (λ t. HasRoom t 262178 0 size) two-parts r)
+
+    pub both-put : {p r : ℕ} {l m n : List ℕ} → Puts (firstLine first) 34 0 l m p → Puts (allLines (h .stage) bytes) (128 * tokenCount bytes) p m n r
+        → Puts text 262178 0 l n r
+    both-put a b = rw two-parts (in-turn most a b)
+
+    pub both-measured : {n m : ℕ} → Measured (firstLine first) 34 n → Measured (allLines (h .stage) bytes) (128 * tokenCount bytes) m
+        → Measured text 262178 (n + m)
+    both-measured a b = rw two-parts (add-lengths most a b)
+
+-- bytes that hold a program stand after a digit
+pub has-digit : {text : List ℕ} {first : First} {h : Heading} (input : List ℕ) → Opens text (drop 1 input) first → first ≡ Accepted h → 1 ≤ length input
+has-digit input o e = omega (arith, listed o e .header, length-drop 1 input)

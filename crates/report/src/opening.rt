@@ -1,0 +1,77 @@
+// What the first line of the text says.
+ghost use mathlib.Core.Path.{_≡_};
+ghost use Prim.Native.Nat.{_≤_, _<_};
+ghost use lib.ListN.{length, drop};
+ghost use Rattle.verifier.specs.Verdict.{verdict};
+ghost use Rattle.report.specs.Text.{answerText, faultOf, isEdition as isEditionDigit, editionOf, textOf};
+ghost use Rattle.report.specs.Writers.{Opens};
+use bytecode::answers::Refusal;
+use listing::first::Fault;
+use listing::first::First;
+use listing::first::Heading;
+use verifier::answers::Checked;
+
+pub(crate) fn first_of(input: &[u8]) -> First
+    ensures { λ r. ⌜ Opens (textOf (now (input .entry))) (drop 1 (now (input .entry))) r ⌝ }
+{
+    if 49160 < input.len() {
+        return First::InputTooLong;
+    }
+    if input.len() == 0 {
+        return First::NoEdition;
+    }
+    let digit = input[0];
+    if !is_edition(digit) {
+        let fault = Fault {
+            number: 1,
+            token: 0,
+            part: 0,
+        };
+        return First::Refused(fault);
+    }
+    answer_of(edition_of(digit), &input[1..])
+}
+
+fn is_edition(digit: u8) -> bool
+    ensures { λ r. ⌜ r ≡ isEditionDigit digit ⌝ }
+{
+    (b'1' <= digit) & (digit <= b'3')
+}
+
+// The edition that a digit names.
+fn edition_of(digit: u8) -> u16
+    requires { ⌜ (49 ≤ digit) × (digit ≤ 51) ⌝ }
+    ensures { λ r. ⌜ r ≡ editionOf digit ⌝ }
+{
+    (digit - b'0') as u16
+}
+
+// What the check answers. As many bytes hold at most 2048 tokens.
+fn answer_of(edition: u16, bytes: &[u8]) -> First
+    requires { ⌜ length (now bytes) ≤ 49159 ⌝ }
+    ensures { λ r. ⌜ Opens (answerText edition (now (bytes .entry)) (verdict edition (now (bytes .entry)))) (now (bytes .entry)) r ⌝ }
+{
+    match verifier::check(edition as u32, bytes) {
+        Checked::Accepted(program) => {
+            let heading = Heading {
+                edition,
+                stage: program.stage,
+                tokens: program.tokens as u16,
+            };
+            First::Accepted(heading)
+        }
+        Checked::Refused(r) => First::Refused(fault_of(r)),
+    }
+}
+
+// A refusal of a program whose tokens 16 bits can number.
+fn fault_of(r: Refusal) -> Fault
+    requires { ⌜ r .token < 65536 ⌝ }
+    ensures { λ f. ⌜ f ≡ faultOf r ⌝ }
+{
+    Fault {
+        number: r.number,
+        token: r.token as u16,
+        part: r.part,
+    }
+}
