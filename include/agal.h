@@ -33,9 +33,12 @@ extern "C" {
 #define AGAL_INPUT_MAX 49160    /* the longest input that agal_report lists */
 #define AGAL_REPORT_MAX 262178  /* room for any text of agal_report */
 
-/* Stack that a thread needs to have left, in bytes. Measured: 4,576 for agal_check, 267,072 for agal_report, under 1,000 for the others. */
+/*
+ * Stack that a thread needs to have left, in bytes. Measured: 1,912 for agal_check, 2,280 for agal_report, 1,048 for the others; and some
+ * 3,200 more in a program's first call, where the loader looks up memcpy and the like only then.
+ */
 #define AGAL_CHECK_STACK 8192
-#define AGAL_REPORT_STACK 278528
+#define AGAL_REPORT_STACK 8192
 
 /* Stages. */
 #define AGAL_VERTEX 0
@@ -166,7 +169,8 @@ agal_answer agal_line(const uint8_t *flat, size_t flat_length, uint32_t stage, u
  * line that says why there is none.
  *
  * Every input has a text; value is its length, at most AGAL_REPORT_MAX, and no 0 stands after it. Refused by 23 alone.
- * Takes less than AGAL_REPORT_STACK bytes of stack: it writes the whole text there first.
+ * Takes less than AGAL_REPORT_STACK bytes of stack. A buffer of AGAL_REPORT_MAX bytes is written at once; for a shorter one the text is
+ * measured first, which takes about as long as to write it.
  */
 agal_answer agal_report(const uint8_t *input, size_t input_length, uint8_t *out, size_t out_length);
 

@@ -82,8 +82,9 @@ static int within(const char *name, void *(*run)(void *), size_t enough)
 
 int main(void)
 {
-    int right = within("agal_check", check, AGAL_CHECK_STACK);
-    right = within("agal_report", report, AGAL_REPORT_STACK) && right;
+    /* The deepest first, since the loader may take some in the first call. */
+    int right = within("agal_report", report, AGAL_REPORT_STACK);
+    right = within("agal_check", check, AGAL_CHECK_STACK) && right;
     right = within("agal_decode, agal_read, agal_encode, agal_line", other, 4096) && right;
     return right ? 0 : 1;
 }
