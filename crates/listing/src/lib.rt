@@ -13,4 +13,3 @@ mod text;
 
 pub use first::first_line;
 pub use lines::line;
-pub use printing::print;

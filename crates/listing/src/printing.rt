@@ -6,7 +6,7 @@ use crate::answers::Printed;
 use crate::text;
 use bytecode::answers::Refusal;
 
-pub fn print(text: &[u8], out: &mut [u8]) -> Printed
+pub(crate) fn print(text: &[u8], out: &mut [u8]) -> Printed
     ensures { λ r. ⌜ Prints (now (text .entry)) (now (out .entry)) (now (out .exit)) r ⌝ }
 {
     if out.len() < text.len() {
