@@ -1,15 +1,17 @@
 -- The first fault of a token in the form that the code keeps: a refusal, with number 0 where there is none.
-use Prim.Native.Nat.{ℕ}
+use Prim.Native.Nat.{ℕ, _<_}
 use mathlib.Core.Bool.{Bool, true, false, not, cond}
 use mathlib.Core.Option.{Option, none, some}
+use mathlib.Core.Path.{_≡_}
 use lib.Dec.{eqb, ltb}
 use Rattle.bytecode.specs.Decode.{refusal, noRefusal}
 use Rattle.bytecode.specs.declared.answers.Refusal.{Refusal}
+use Rattle.layout.specs.declared.record.Operand.{Operand}
 use Rattle.layout.specs.declared.record.Token.{Token}
 use Rattle.paths.specs.Paths.{TokenFault}
 use Rattle.faults.specs.Rules.{opcodeTooNew, opcodeNotForStage, selectorsDiffer, matrixSwizzled}
 use Rattle.faults.specs.Profile.{countIn}
-use Rattle.faults.specs.Order.{firstFault, recordRules}
+use Rattle.faults.specs.Order.{firstFault, sourceRules, recordRules}
 use Rattle.faults.specs.declared.profile.Profile.{Profile}
 
 abbrev pub numberOf : Option TokenFault → ℕ
@@ -45,3 +47,13 @@ undecodedFault profile token r opcode =
     cond (ltb (r .number) 12) (refusal (r .number) token (r .part))
     (cond (opcodeTooNew (profile .edition) opcode) (refusal 10 token 0)
     (cond (opcodeNotForStage (profile .stage) opcode) (refusal 11 token 0) (refusal (r .number) token (r .part))))
+
+-- no rule of a direct source of one row is broken, in whichever place, with an opcode below m33, the first that rule 18 names
+abbrev pub NoSourceFault : Profile → Operand → Type 0
+NoSourceFault profile o =
+    (second : Bool) (opcode : ℕ) → opcode < 0x17
+    → numberOf (firstFault (sourceRules (countIn profile) (profile .stage) 1 (swizzleWrong second opcode) 0 o)) ≡ 0
+
+-- a token has none of these faults, wherever it stands
+abbrev pub NoOwnFault : Profile → Token → Type 0
+NoOwnFault profile t = (token : ℕ) → ownFault profile token t ≡ noRefusal
