@@ -5,7 +5,7 @@ ghost use Rattle.layout.specs.Records.{tokenOf};
 use crate::answers::Decoded;
 use crate::answers::Examined;
 use crate::answers::Refusal;
-use crate::bytes;
+use crate::fields;
 use layout::bits;
 use layout::fields::Fields;
 use layout::opcodes;
@@ -19,7 +19,7 @@ pub fn decode(bytes: &[u8]) -> Decoded
     if bytes.len() != 24 {
         return Decoded::Refused(refused(24, 0));
     }
-    let f = bytes::read_fields(bytes);
+    let f = fields::read_fields(bytes);
     let shape = opcodes::shape_of(f.opcode);
     if is_clean(shape, f) {
         return Decoded::Token(token_of(shape, f));
@@ -36,7 +36,7 @@ pub fn examine(bytes: &[u8]) -> Examined
     if length != 24 {
         return too_short_or_long();
     }
-    let fields = bytes::read_fields(bytes);
+    let fields = fields::read_fields(bytes);
     let shape = opcodes::shape_of(fields.opcode);
     if is_clean(shape, fields) {
         return examined(refused(0, 0), shape, fields);

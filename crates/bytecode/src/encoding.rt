@@ -2,8 +2,8 @@
 ghost use mathlib.Core.Path.{_≡_};
 ghost use Rattle.bytecode.specs.Encode.{Encodes, isEncodable};
 use crate::answers::Encoded;
-use crate::bytes;
 use crate::decoding;
+use crate::fields;
 use crate::pack;
 use crate::pack::PackedToken;
 use layout::record::Token;
@@ -17,7 +17,7 @@ pub fn encode(token: Token, out: &mut [u8]) -> Encoded
     if out.len() < 24 {
         return Encoded::Refused(decoding::refused(23, 0));
     }
-    bytes::write_fields(f, out);
+    fields::write_fields(f, out);
     Encoded::Written
 }
 

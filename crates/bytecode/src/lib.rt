@@ -1,9 +1,9 @@
 // A token's 24 bytes and its record: decode, encode and bias.
 pub mod answers;
 mod biases;
-mod bytes;
 mod decoding;
 mod encoding;
+mod fields;
 mod pack;
 
 pub use biases::bias;

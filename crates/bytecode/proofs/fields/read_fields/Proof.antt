@@ -1,8 +1,8 @@
 -- `read_fields` meets its contract.
 -- Assumes nothing.
 use borrow.Author.Needs.{needs}
-use Rattle.bytecode.proofs.bytes.read_fields.Statement.{statement}
-use Rattle.bytecode.proofs.bytes.read_fields.Tie as tie
+use Rattle.bytecode.proofs.fields.read_fields.Statement.{statement}
+use Rattle.bytecode.proofs.fields.read_fields.Tie as tie
 
 word-at-requires : tie.Need-word-at-requires
 word-at-requires c κs = search needs

@@ -4,8 +4,8 @@ use borrow.Author.Needs.{needs}
 use lib.Seq.{sets-eq}
 use denote.Ref.{now}
 use Rattle.bytecode.specs.Fields.{bytesOf}
-use Rattle.bytecode.proofs.bytes.write_fields.Statement.{statement}
-use Rattle.bytecode.proofs.bytes.write_fields.Tie as tie
+use Rattle.bytecode.proofs.fields.write_fields.Statement.{statement}
+use Rattle.bytecode.proofs.fields.write_fields.Tie as tie
 
 cast-opcode : tie.Need-cast-opcode
 cast-opcode c = search needs

@@ -3,8 +3,8 @@
 use native.Mathlib.Omega.{arith}
 use lib.ListN.{length-set}
 use borrow.Author.Needs.{needs}
-use Rattle.bytecode.proofs.bytes.write_word.Statement.{statement}
-use Rattle.bytecode.proofs.bytes.write_word.Tie as tie
+use Rattle.bytecode.proofs.fields.write_word.Statement.{statement}
+use Rattle.bytecode.proofs.fields.write_word.Tie as tie
 
 cast-out : tie.Need-cast-out
 cast-out c = search needs
