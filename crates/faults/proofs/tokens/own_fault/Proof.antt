@@ -1,26 +1,61 @@
--- `own_fault` meets its contract.
+-- `ordered_fault` meets its contract.
 -- Assumes nothing.
+use Rattle.layout.specs.Records.{tokenOf}
+use Rattle.faults.specs.Faults.{ownFault}
 use borrow.Author.Needs.{needs}
-use mathlib.Core.Path.{_∙_, sym}
-use Rattle.faults.proofs.tokens.own_fault.Statement.{statement}
-use Rattle.faults.proofs.tokens.own_fault.Tie as tie
+use Rattle.faults.proofs.tokens.ordered_fault.Statement.{statement}
+use Rattle.faults.proofs.tokens.ordered_fault.Tie as tie
 
-is-plain-requires : tie.Need-is-plain-requires
-is-plain-requires c κs = search needs
+opcode-too-new-requires : tie.Need-opcode-too-new-requires
+opcode-too-new-requires c κs = search needs
 
 refusal-requires : tie.Need-refusal-requires
 refusal-requires c κs = search needs
 
 returns : tie.Need-returns
-returns c = c .refusal .ensures ∙ sym (c .before .before .is-plain .ensures (c .before .if1 .taken) (c .before .before .before .args .token))
+unfolding ownFault tokenOf
+returns c = simp (← c .before .before .opcode-too-new .ensures, c .before .if1 .taken, c .refusal .ensures)
 
-ordered-fault-requires : tie.Need-ordered-fault-requires
-ordered-fault-requires c κs = search needs
+opcode-not-for-stage-requires : tie.Need-opcode-not-for-stage-requires
+opcode-not-for-stage-requires c κs = search needs
+
+refusal-requires-2 : tie.Need-refusal-requires-2
+refusal-requires-2 c κs = search needs
 
 returns-2 : tie.Need-returns-2
-returns-2 c = search needs
+unfolding ownFault tokenOf
+returns-2 c =
+    simp (
+      ← c .before .before .before .before .opcode-too-new .ensures,
+      c .before .before .before .if1 .left,
+      ← c .before .before .opcode-not-for-stage .ensures,
+      c .before .if2 .taken,
+      c .refusal2 .ensures,
+    )
 
-pub own-fault-spec : {M : Type 1} → statement M
-own-fault-spec =
+record-fault-requires : tie.Need-record-fault-requires
+record-fault-requires c κs = search needs
+
+returns-3 : tie.Need-returns-3
+unfolding ownFault tokenOf
+returns-3 c =
+    simp (
+      ← c .before .before .before .before .opcode-too-new .ensures,
+      c .before .before .before .if1 .left,
+      ← c .before .before .opcode-not-for-stage .ensures,
+      c .before .if2 .left,
+      c .record-fault .ensures,
+    )
+
+pub ordered-fault-spec : {M : Type 1} → statement M
+ordered-fault-spec =
     tie.close
-    (tie.spec is-plain-requires refusal-requires returns ordered-fault-requires returns-2)
+    (tie.spec
+    opcode-too-new-requires
+    refusal-requires
+    returns
+    opcode-not-for-stage-requires
+    refusal-requires-2
+    returns-2
+    record-fault-requires
+    returns-3)
