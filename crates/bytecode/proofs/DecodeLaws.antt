@@ -12,11 +12,10 @@ use Rattle.layout.specs.Opcodes.{shapeOf}
 use Rattle.bytecode.specs.Fields.{fieldsOf}
 use Rattle.layout.specs.Layout.{destinationBits, operandBits, isStray}
 use Rattle.layout.specs.Records.{tokenOf}
-use Rattle.bytecode.specs.Decode.{refusal, noRefusal, lowestPart, unusedPart, undefinedPart, isClean, tokenFault, decodeFault, notExamined, examinedFields, examinedOf, decodeOf, Decodes}
+use Rattle.bytecode.specs.Decode.{refusal, noRefusal, lowestPart, unusedPart, undefinedPart, isClean, tokenFault, decodeFault, decodeOf, Decodes}
 use Rattle.layout.specs.declared.opcodes.Shape.{Shape}
 use Rattle.layout.specs.declared.fields.Fields.{Fields}
 use Rattle.layout.specs.declared.record.Token.{Token}
-use Rattle.bytecode.specs.declared.answers.Examined.{Examined}
 use Rattle.bytecode.specs.declared.answers.Refusal.{Refusal}
 use Rattle.bytecode.specs.declared.answers.Decoded.the-variants.{Token as Accepted, Refused}
 
@@ -37,53 +36,27 @@ no-fault s f e =
     no-chain (not (s .listed)) (not (eqb (unusedPart s f) 0)) (not (eqb (undefinedPart s f) 0)) (unusedPart s f) (undefinedPart s f) e
 
 module _ (s : List ℕ) where
-  -- what examine finds is decode's fault
-  fault-is : examinedOf s .fault ≡ decodeFault s
-  unfolding examinedOf decodeFault
-  fault-is = go (eqb (length s) 24)
-    where
-      go : (b : Bool) → cond b (examinedFields (fieldsOf s)) notExamined .fault ≡ cond b (tokenFault (shapeOf (fieldsOf s .opcode)) (fieldsOf s)) (refusal 24 0 0)
-      go true = refl
-      go false = refl
+  by-fields : length s ≡ 24 → decodeFault s ≡ tokenFault (shapeOf (fieldsOf s .opcode)) (fieldsOf s)
+  unfolding decodeFault
+  by-fields h = rw (eq-eqb _ _ h)
 
-  -- what examine finds without a fault is the token
-  fields-are : examinedOf s .fault .number ≡ 0 → examinedOf s ≡ examinedFields (fieldsOf s)
-  unfolding examinedOf
-  fields-are = go (eqb (length s) 24)
-    where
-      go : (b : Bool) → cond b (examinedFields (fieldsOf s)) notExamined .fault .number ≡ 0 → cond b (examinedFields (fieldsOf s)) notExamined ≡ examinedFields (fieldsOf s)
-      go true e = refl
-      go false e = absurd (omega (arith, e))
-
-  module _ (x : Examined) (e : x ≡ examinedOf s) where
-    pub refused-by : (x .fault .number ≡ 0 → ⊥) → Decodes s (Refused (x .fault))
-    unfolding decodeOf
-    refused-by n =
-        let q : decodeFault s ≡ x .fault = sym (ap (λ k. k .fault) e ∙ fault-is) in
-        record { answer = sym (rw (q, ne-eqb (x .fault .number) 0 n)); numbers = sym q }
-
-    pub token-by : x .fault .number ≡ 0 → x ≡ examinedFields (fieldsOf s)
-    token-by n = e ∙ fields-are (sym (ap (λ k. k .fault .number) e) ∙ n)
-
-    pub accepted-by : x .fault .number ≡ 0 → Decodes s (Accepted (tokenOf (x .shape) (x .fields)))
-    unfolding decodeOf
-    accepted-by n =
-        let k = token-by n in
-        let f = no-fault (shapeOf (fieldsOf s .opcode)) (fieldsOf s) (sym (ap (λ k. k .fault .number) k) ∙ n) in
-        let z : decodeFault s ≡ noRefusal = sym (ap (λ k. k .fault) e ∙ fault-is) ∙ ap (λ k. k .fault) k ∙ f in
-        record { answer = ap (λ k. Accepted (tokenOf (k .shape) (k .fields))) k ∙ sym (rw z); numbers = sym z }
+  -- a fault that decode has is its answer
+  refused-by : (r : Refusal) → decodeFault s ≡ r → (r .number ≡ 0 → ⊥) → Decodes s (Refused r)
+  unfolding decodeOf
+  refused-by r q n = record { answer = sym (rw (q, ne-eqb (r .number) 0 n)); numbers = sym q }
 
   pub wrong-length : (length s ≡ 24 → ⊥) → Decodes s (Refused (refusal 24 0 0))
-  unfolding examinedOf
-  wrong-length n = refused-by notExamined (sym (rw (ne-eqb _ _ n))) (λ e. omega (arith, e))
+  unfolding decodeFault
+  wrong-length n = refused-by (refusal 24 0 0) (rw (ne-eqb _ _ n)) (λ e. omega (arith, e))
 
   pub with-fault : length s ≡ 24 → (tokenFault (shapeOf (fieldsOf s .opcode)) (fieldsOf s) .number ≡ 0 → ⊥) → Decodes s (Refused (tokenFault (shapeOf (fieldsOf s .opcode)) (fieldsOf s)))
-  unfolding examinedOf
-  with-fault h n = refused-by (examinedFields (fieldsOf s)) (sym (rw (eq-eqb _ _ h))) n
+  with-fault h n = refused-by (tokenFault (shapeOf (fieldsOf s .opcode)) (fieldsOf s)) (by-fields h) n
 
   pub no-faults : length s ≡ 24 → tokenFault (shapeOf (fieldsOf s .opcode)) (fieldsOf s) .number ≡ 0 → Decodes s (Accepted (tokenOf (shapeOf (fieldsOf s .opcode)) (fieldsOf s)))
-  unfolding examinedOf
-  no-faults h e = accepted-by (examinedFields (fieldsOf s)) (sym (rw (eq-eqb _ _ h))) e
+  unfolding decodeOf
+  no-faults h e =
+      let z = by-fields h ∙ no-fault (shapeOf (fieldsOf s .opcode)) (fieldsOf s) e in
+      record { answer = sym (rw z); numbers = sym z }
 
 -- ---- what a token without a fault is
 

@@ -5,7 +5,7 @@ use mathlib.Core.List.{List}
 use mathlib.Core.Path.{_≡_}
 use lib.Dec.{eqb}
 use lib.ListN.{length}
-use Rattle.layout.specs.Opcodes.{unlisted, shapeOf}
+use Rattle.layout.specs.Opcodes.{shapeOf}
 use Rattle.layout.specs.Layout.{destinationBits, operandBits, isStray}
 use Rattle.bytecode.specs.Fields.{fieldsOf}
 use Rattle.layout.specs.Records.{tokenOf}
@@ -13,7 +13,6 @@ use Rattle.layout.specs.declared.opcodes.Shape.{Shape}
 use Rattle.layout.specs.declared.fields.Fields.{Fields}
 use Rattle.bytecode.specs.declared.answers.Refusal.{Refusal}
 use Rattle.bytecode.specs.declared.answers.Decoded.{Decoded}
-use Rattle.bytecode.specs.declared.answers.Examined.{Examined}
 use Rattle.bytecode.specs.declared.answers.Decoded.the-variants.{Token as Accepted, Refused}
 
 -- the numbers of a refusal: fault, token and part
@@ -73,21 +72,6 @@ isClean shape f =
     (isStray (destinationBits (shape .destination)) (f .destination)
     || isStray (operandBits (shape .source1)) (f .source1)
     || isStray (operandBits (shape .source2)) (f .source2))
-
--- what examine answers: the fault that decode gives, and what it makes a record of
-abbrev pub notExamined : Examined
-notExamined =
-    record {
-      fault = refusal 24 0 0;
-      shape = unlisted;
-      fields = record { opcode = 0; destination = 0; source1 = 0; source2 = 0 };
-    }
-
-abbrev pub examinedFields : Fields → Examined
-examinedFields f = record { fault = tokenFault (shapeOf (f .opcode)) f; shape = shapeOf (f .opcode); fields = f }
-
-unfoldable pub examinedOf : List ℕ → Examined
-examinedOf s = cond (eqb (length s) 24) (examinedFields (fieldsOf s)) notExamined
 
 -- what decode answers
 unfoldable pub decodeOf : List ℕ → Decoded

@@ -1,6 +1,4 @@
 // What decode and encode answer.
-use layout::fields::Fields;
-use layout::opcodes::Shape;
 use layout::record::Token;
 
 // A refusal by the numbers of the format's rules: the fault, the token it stands at, and the part of the token (0 opcode, 1 destination,
@@ -14,13 +12,6 @@ pub struct Refusal {
 pub enum Decoded {
     Token(Token),
     Refused(Refusal),
-}
-
-// A token before its record is made. Where the fault's number is not 0, the rest tells nothing.
-pub struct Examined {
-    pub fault: Refusal,
-    pub shape: Shape,
-    pub fields: Fields,
 }
 
 pub enum Encoded {

@@ -1,15 +1,13 @@
 // Decode: a record from 24 bytes, or the first fault.
 ghost use mathlib.Core.Path.{_≡_};
-ghost use Rattle.bytecode.specs.Decode.{Decodes, examinedOf, notExamined, isClean, tokenFault, unusedNotZero, undefinedBitSet, unusedPart, undefinedPart, lowestPart, refusal};
+ghost use Rattle.bytecode.specs.Decode.{Decodes, isClean, tokenFault, unusedNotZero, undefinedBitSet, unusedPart, undefinedPart, lowestPart, refusal};
 ghost use Rattle.layout.specs.Records.{tokenOf};
 use crate::answers::Decoded;
-use crate::answers::Examined;
 use crate::answers::Refusal;
 use crate::fields;
 use layout::bits;
 use layout::fields::Fields;
 use layout::opcodes;
-use layout::opcodes::OperandShape;
 use layout::opcodes::Shape;
 use layout::record::Token;
 
@@ -25,54 +23,6 @@ pub fn decode(bytes: &[u8]) -> Decoded
         return Decoded::Token(token_of(shape, f));
     }
     Decoded::Refused(fault_of(shape, f))
-}
-
-// What decode sees before it makes a record: the fields of a token, what its opcode holds, and the first fault, with number 0 where there
-// is none.
-pub fn examine(bytes: &[u8]) -> Examined
-    ensures { λ r. ⌜ r ≡ examinedOf (now (bytes .entry)) ⌝ }
-{
-    let length = bytes.len();
-    if length != 24 {
-        return too_short_or_long();
-    }
-    let fields = fields::read_fields(bytes);
-    let shape = opcodes::shape_of(fields.opcode);
-    if is_clean(shape, fields) {
-        return examined(refused(0, 0), shape, fields);
-    }
-    examined(fault_of(shape, fields), shape, fields)
-}
-
-fn examined(fault: Refusal, shape: Shape, fields: Fields) -> Examined
-    ensures { λ r. ⌜ r ≡ record { fault = fault; shape = shape; fields = fields } ⌝ }
-{
-    Examined {
-        fault,
-        shape,
-        fields,
-    }
-}
-
-fn too_short_or_long() -> Examined
-    ensures { λ r. ⌜ r ≡ notExamined ⌝ }
-{
-    let fault = refused(24, 0);
-    Examined {
-        fault,
-        shape: Shape {
-            listed: false,
-            destination: false,
-            source1: OperandShape::Unused,
-            source2: OperandShape::Unused,
-        },
-        fields: Fields {
-            opcode: 0,
-            destination: 0,
-            source1: 0,
-            source2: 0,
-        },
-    }
 }
 
 fn token_of(shape: Shape, f: Fields) -> Token
@@ -91,8 +41,8 @@ fn token_of(shape: Shape, f: Fields) -> Token
     }
 }
 
-// The first fault of a token's fields; number 0 where there is none.
-fn fault_of(shape: Shape, f: Fields) -> Refusal
+// The first fault of a token's fields, 9, 12 or 13; number 0 where there is none.
+pub fn fault_of(shape: Shape, f: Fields) -> Refusal
     ensures { λ r. ⌜ r ≡ tokenFault shape f ⌝ }
 {
     if !shape.listed {
@@ -110,7 +60,7 @@ fn fault_of(shape: Shape, f: Fields) -> Refusal
 }
 
 // Whether the opcode is listed and no field has a stray bit. Most tokens are clean, so it is tested before a fault is looked for.
-fn is_clean(shape: Shape, f: Fields) -> bool
+pub fn is_clean(shape: Shape, f: Fields) -> bool
     ensures { λ r. ⌜ r ≡ isClean shape f ⌝ }
 {
     let shape1 = shape.source1;

@@ -4,8 +4,23 @@ ghost use Prim.Native.Nat.{_+_, _*_, _≤_, _<_, _^_};
 ghost use mathlib.Core.List.{_++_};
 ghost use lib.ListN.{length, drop};
 ghost use Rattle.layout.specs.Layout.{wordAt, longAt};
-ghost use Rattle.bytecode.specs.Fields.{fieldsOf, bytesOf, withWord};
+ghost use Rattle.bytecode.specs.Fields.{fieldsOf, fieldsIn, bytesOf, withWord};
 use layout::fields::Fields;
+
+// The fields of a token, from its bytes; all 0 where there are fewer than 24.
+pub fn fields_of(bytes: &[u8]) -> Fields
+    ensures { λ r. ⌜ r ≡ fieldsIn (now (bytes .entry)) ⌝ }
+{
+    if bytes.len() < 24 {
+        return Fields {
+            opcode: 0,
+            destination: 0,
+            source1: 0,
+            source2: 0,
+        };
+    }
+    read_fields(bytes)
+}
 
 pub(crate) fn read_fields(bytes: &[u8]) -> Fields
     requires { ⌜ 24 ≤ length (now bytes) ⌝ }

@@ -8,7 +8,9 @@ mod pack;
 
 pub use biases::bias;
 pub use decoding::decode;
-pub use decoding::examine;
+pub use decoding::fault_of;
+pub use decoding::is_clean;
 pub use encoding::encodable;
 pub use encoding::encode;
+pub use fields::fields_of;
 pub use pack::unsigned_byte;

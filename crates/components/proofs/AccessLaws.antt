@@ -10,8 +10,9 @@ use lib.Bits.{bitOr}
 use lib.Dec.{eqb}
 use borrow.Author.Tests.{eqb-true, eq-eqb, ne-eqb}
 use Rattle.laws.specs.Tests.{every}
-use Rattle.laws.proofs.Every.{below}
+use Rattle.laws.proofs.Every.{below, left}
 use Rattle.layout.specs.Opcodes.{isIn, kil, tex}
+use Rattle.layout.specs.declared.record.DirectSource.{DirectSource}
 use Rattle.layout.specs.declared.record.Operand.{Operand}
 use Rattle.layout.specs.declared.record.Operand.the-variants.{Unused as NoOperand, Direct, Indexed, Sampler as Sampled}
 use Rattle.layout.specs.declared.record.Token.{Token}
@@ -19,7 +20,7 @@ use Rattle.paths.specs.Check.{lacks}
 use Rattle.components.specs.Reads.{keep, those, firstFew, bitOf, maskComponents, selector, named, m33, m34, m44}
 use Rattle.components.specs.Reads.{byThree1, byThree2, byFour1, byFour2, selectors1, selectors2, components2, rowCount2}
 use Rattle.components.specs.Reads.{rowsOf, readsThrough, maskOf, dimensionOf, reads1, reads2, temporaries}
-use Rattle.components.specs.Access.{Access, accessed, lacksAccess, namedSet, selectorSet1, selectorSet2, readSet2}
+use Rattle.components.specs.Access.{Access, accessed, lacksAccess, lacksSome, directAccess, namedSet, selectorSet1, selectorSet2, readSet2}
 use Rattle.components.specs.Access.{accessThrough, components1Of, components2Of, access1Of, access2Of}
 use Rattle.components.specs.Written.{componentSet, lacksOf}
 use Rattle.components.specs.declared.written.Written.{Written}
@@ -165,14 +166,20 @@ temporary s a e = rw (eq-eqb (a .kind) 2 e)
 pub not-temporary : (s : Written) (a : Access) → (a .kind ≡ 2 → ⊥) → false ≡ lacksAccess s a
 not-temporary s a e = rw (ne-eqb (a .kind) 2 e)
 
--- and then by all four components
-pub nothing-lacks : (s : Written) (a : Access) {b : Bool} → b ≡ lacksOf s (a .register) (a .rows) 15 → not b ≡ true → false ≡ lacksAccess s a
-nothing-lacks s a e h =
-    rw (lacks-nothing s (a .register) (a .rows) (a .components) (sym e ∙ is-false _ h)) (sym (and-false (eqb (a .kind) 2)))
+-- where all four components are written, none that is read is missing
+pub none-missing : (s : Written) (rows : ℕ) (components : ℕ → ℕ) (d : DirectSource) → lacksSome s rows d ≡ false
+    → false ≡ lacksAccess s (directAccess rows components d)
+unfolding lacksSome
+none-missing s rows components d e = go (eqb (d .kind) 2) e
   where
-    is-false : (b : Bool) → not b ≡ true → b ≡ false
-    is-false true e = sym e
-    is-false false e = refl
+    go : (b : Bool) → (b && lacksOf s (d .number) rows 15) ≡ false → false ≡ (b && lacksOf s (d .number) rows (components (d .swizzle)))
+    go true k = sym (lacks-nothing s (d .number) rows (components (d .swizzle)) k)
+    go false k = refl
+
+-- what lacks some of them is a temporary register
+pub lacking : (s : Written) (rows : ℕ) (d : DirectSource) → lacksSome s rows d ≡ true → d .kind ≡ 2
+unfolding lacksSome
+lacking s rows d e = eqb-true (d .kind) 2 (left (eqb (d .kind) 2) (lacksOf s (d .number) rows 15) e)
 
 -- so the code's test of an access is the check's test of what a token reads
 pub lacks-reads1 : (s : Written) (t : Token) → lacks (componentSet s) (temporaries (reads1 t)) ≡ lacksAccess s (access1Of t)

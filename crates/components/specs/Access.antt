@@ -97,3 +97,7 @@ access1Of t = accessThrough 1 (components1Of t) (t .source1)
 -- what it reads through source 2
 abbrev pub access2Of : Token → Access
 access2Of t = accessThrough (rowCount2 (t .opcode)) (components2Of t) (t .source2)
+
+-- some of the four components of a direct source's rows is not written, whether it is read or not
+unfoldable pub lacksSome : Written → ℕ → DirectSource → Bool
+lacksSome s rows d = eqb (d .kind) 2 && lacksOf s (d .number) rows 15

@@ -4,7 +4,7 @@ ghost use Prim.Native.Nat.{_*_, _^_, _<_};
 ghost use Rattle.layout.specs.Records.{directOf, indexedOf, sourceOf, destinationOf, operandOf, tokenOf};
 ghost use Rattle.components.specs.Reads.{maskOf, dimensionOf, rowCount2};
 ghost use Rattle.components.specs.Access.{amongOf, namedSet, coordinateSet, selectorSet1, selectorSet2, readSet2};
-ghost use Rattle.components.specs.Access.{lacksAccess, directAccess, indexAccess, accessThrough, components1Of, components2Of, access1Of, access2Of};
+ghost use Rattle.components.specs.Access.{lacksAccess, lacksSome, directAccess, indexAccess, accessThrough, components1Of, components2Of, access1Of, access2Of};
 use crate::written;
 use crate::written::Written;
 use layout::fields::Fields;
@@ -66,13 +66,10 @@ fn source_unwritten1(current: Written, shape: Shape, f: Fields) -> bool
 fn direct_unwritten1(current: Written, shape: Shape, f: Fields) -> bool
     ensures { λ r. ⌜ r ≡ lacksAccess current (directAccess 1 (components1Of (tokenOf shape f)) (directOf (f .source1))) ⌝ }
 {
+    if !lacks_some(current, 1, f.source1) {
+        return false;
+    }
     let source = layout::unpack_direct(f.source1);
-    if source.kind != 2 {
-        return false;
-    }
-    if !written::lacks(current, source.number, 1, ALL_FOUR) {
-        return false;
-    }
     let mask = mask_of(shape.destination, f.destination);
     let shape2 = shape.source2;
     let selectors = selectors1(f.opcode, mask, dimension_of(shape2, f.source2));
@@ -104,17 +101,23 @@ fn source_unwritten2(current: Written, shape: Shape, f: Fields) -> bool
 fn direct_unwritten2(current: Written, shape: Shape, f: Fields) -> bool
     ensures { λ r. ⌜ r ≡ lacksAccess current (directAccess (rowCount2 (f .opcode)) (components2Of (tokenOf shape f)) (directOf (f .source2))) ⌝ }
 {
-    let source = layout::unpack_direct(f.source2);
-    if source.kind != 2 {
-        return false;
-    }
     let rows = rows2(f.opcode);
-    if !written::lacks(current, source.number, rows, ALL_FOUR) {
+    if !lacks_some(current, rows, f.source2) {
         return false;
     }
+    let source = layout::unpack_direct(f.source2);
     let mask = mask_of(shape.destination, f.destination);
     let components = components2(f.opcode, mask, source.swizzle);
     written::lacks(current, source.number, rows, components)
+}
+
+// Whether a direct source is a temporary register that lacks a component, or one of so many rows does. If not, it is not to be asked which
+// components are read.
+pub fn lacks_some(current: Written, rows: u8, field: u64) -> bool
+    ensures { λ r. ⌜ r ≡ lacksSome current rows (directOf field) ⌝ }
+{
+    let source = layout::unpack_direct(field);
+    (source.kind == 2) & written::lacks(current, source.number, rows, ALL_FOUR)
 }
 
 // An indexed source reads one component of its index register.

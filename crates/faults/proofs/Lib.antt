@@ -1,5 +1,5 @@
 pub mod Added
+pub mod Counts
 pub mod FaultLaws
 pub mod OwnFault
-pub mod Packed
-pub mod Plain
+pub mod PlainToken

@@ -7,8 +7,7 @@ use mathlib.Core.Option.{Option, some, Option·none-ne-some}
 use mathlib.Core.Path.{_≡_, refl, _∙_, sym, ap}
 use native.Mathlib.Omega.{arith}
 use lib.Dec.{eqb, ltb, lit≤}
-use lib.ListN.{length, getD}
-use borrow.Author.Tests.{not-false}
+use lib.ListN.{length}
 use Rattle.layout.specs.Opcodes.{shapeOf}
 use Rattle.bytecode.specs.Fields.{fieldsOf}
 use Rattle.layout.specs.Records.{tokenOf}
@@ -19,7 +18,6 @@ use Rattle.layout.specs.declared.record.Operand.{Operand}
 use Rattle.layout.specs.declared.record.Operand.the-variants.{Unused as NoOperand, Direct, Indexed, Sampler as Sampled}
 use Rattle.layout.specs.declared.record.Token.{Token}
 use Rattle.bytecode.proofs.DecodeLaws.{accepted, none-broken, was-refused}
-use Rattle.layout.proofs.Listed.{listed-below}
 use Rattle.registers.specs.Counts.{countOf}
 use Rattle.paths.specs.Paths.{TokenFault}
 use Rattle.components.specs.Reads.{rowCount2}
@@ -27,7 +25,7 @@ use Rattle.faults.specs.Rules.{opcodeTooNew, opcodeNotForStage, selector
 use Rattle.faults.specs.Profile.{profileOf, countIn}
 use Rattle.faults.specs.Order.{Rule, firstFault, sourceRules, recordRules, tokenRules, recordOf}
 use Rattle.faults.specs.Faults.{refusalAt, recordFault, ownFault, undecodedFault}
-use Rattle.faults.proofs.Packed.{counts-are}
+use Rattle.faults.proofs.Counts.{counts-are}
 
 -- ---- numbers 9 to 19
 
@@ -67,10 +65,6 @@ module _ (count : ℕ → ℕ) (edition stage : ℕ) (s : List ℕ) where
 -- ---- a token that decode refuses
 
 module _ (edition stage n : ℕ) (s : List ℕ) (h : length s ≡ 24) where
-  -- a listed opcode is its lowest byte
-  low-byte : shapeOf (fieldsOf s .opcode) .listed ≡ true → fieldsOf s .opcode ≡ getD s 0 0
-  low-byte l = omega (arith, listed-below (fieldsOf s .opcode) l)
-
   -- the tests in their order, and what is made of them
   refused-chain : (l a b u v : Bool) (x y : ℕ) (later : Option TokenFault) (r : Refusal)
       → r ≡ cond l (refusal 9 0 0) (cond u (refusal 12 0 x) (cond v (refusal 13 0 y) noRefusal)) → (r .number ≡ 0 → ⊥)
@@ -87,24 +81,12 @@ module _ (edition stage n : ℕ) (s : List ℕ) (h : length s ≡ 24) where
   refused-chain false false false false true x y later r e z = rw e
   refused-chain false false false false false x y later r e z = absurd (z (ap (λ r. r .number) e))
 
-  -- 10 and 11 are tested of the lowest byte; where the opcode is not listed, 9 comes first
-  by-low-byte : (r : Refusal) (l : Bool) → not (shapeOf (fieldsOf s .opcode) .listed) ≡ l → (l ≡ true → r .number ≡ 9)
-      → cond (ltb (r .number) 12) (refusal (r .number) n (r .part)) (cond (opcodeTooNew edition (fieldsOf s .opcode)) (refusal 10 n 0) (cond (opcodeNotForStage stage (fieldsOf s .opcode)) (refusal 11 n 0) (refusal (r .number) n (r .part))))
-      ≡ cond (ltb (r .number) 12) (refusal (r .number) n (r .part)) (cond (opcodeTooNew edition (getD s 0 0)) (refusal 10 n 0) (cond (opcodeNotForStage stage (getD s 0 0)) (refusal 11 n 0) (refusal (r .number) n (r .part))))
-  by-low-byte r true e z = rw (z refl)
-  by-low-byte r false e z = ap (λ k. cond (ltb (r .number) 12) (refusal (r .number) n (r .part)) (cond (opcodeTooNew edition k) (refusal 10 n 0) (cond (opcodeNotForStage stage k) (refusal 11 n 0) (refusal (r .number) n (r .part))))) (low-byte (not-false _ e))
-
   pub refused-fault : (r : Refusal) → decodeOf s ≡ Refused r
-      → refusalAt n (firstFault (tokenRules (λ k. countOf k edition stage) edition stage s)) ≡ undecodedFault (profileOf edition stage) n r (getD s 0 0)
+      → refusalAt n (firstFault (tokenRules (λ k. countOf k edition stage) edition stage s)) ≡ undecodedFault (profileOf edition stage) n r (fieldsOf s .opcode)
   unfolding undecodedFault tokenFault
   refused-fault r e =
       let (q, z) = was-refused s r h e in
       refused-chain (not (shapeOf (fieldsOf s .opcode) .listed)) (opcodeTooNew edition (fieldsOf s .opcode)) (opcodeNotForStage stage (fieldsOf s .opcode)) (not (eqb (unusedPart (shapeOf (fieldsOf s .opcode)) (fieldsOf s)) 0)) (not (eqb (undefinedPart (shapeOf (fieldsOf s .opcode)) (fieldsOf s)) 0)) _ _ _ r q z
-      ∙ by-low-byte r (not (shapeOf (fieldsOf s .opcode) .listed)) refl (λ l. ap (λ x. x .number) (q ∙ first l))
-    where
-      first : not (shapeOf (fieldsOf s .opcode) .listed) ≡ true
-          → cond (not (shapeOf (fieldsOf s .opcode) .listed)) (refusal 9 0 0) (cond (not (eqb (unusedPart (shapeOf (fieldsOf s .opcode)) (fieldsOf s)) 0)) (refusal 12 0 (unusedPart (shapeOf (fieldsOf s .opcode)) (fieldsOf s))) (cond (not (eqb (undefinedPart (shapeOf (fieldsOf s .opcode)) (fieldsOf s)) 0)) (refusal 13 0 (undefinedPart (shapeOf (fieldsOf s .opcode)) (fieldsOf s))) noRefusal)) ≡ refusal 9 0 0
-      first l = rw l
 
   -- ---- a token that decode takes
 

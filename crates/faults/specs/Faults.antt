@@ -1,8 +1,7 @@
 -- The first fault of a token in the form that the code keeps: a refusal, with number 0 where there is none.
-use Prim.Native.Nat.{ℕ, _<_}
+use Prim.Native.Nat.{ℕ}
 use mathlib.Core.Bool.{Bool, true, false, not, cond}
 use mathlib.Core.Option.{Option, none, some}
-use mathlib.Core.Path.{_≡_}
 use lib.Dec.{eqb, ltb}
 use Rattle.bytecode.specs.Decode.{refusal, noRefusal}
 use Rattle.bytecode.specs.declared.answers.Refusal.{Refusal}
@@ -41,19 +40,9 @@ ownFault profile token t =
     cond (opcodeTooNew (profile .edition) (t .opcode)) (refusal 10 token 0)
     (cond (opcodeNotForStage (profile .stage) (t .opcode)) (refusal 11 token 0) (recordFault profile token t))
 
--- the same of a token that decode refuses, whose opcode's lowest byte this is
+-- the same of a token that decode refuses
 unfoldable pub undecodedFault : Profile → ℕ → Refusal → ℕ → Refusal
 undecodedFault profile token r opcode =
     cond (ltb (r .number) 12) (refusal (r .number) token (r .part))
     (cond (opcodeTooNew (profile .edition) opcode) (refusal 10 token 0)
     (cond (opcodeNotForStage (profile .stage) opcode) (refusal 11 token 0) (refusal (r .number) token (r .part))))
-
--- no rule of a direct source of one row is broken, in whichever place, with an opcode below m33, the first that rule 18 names
-abbrev pub NoSourceFault : Profile → Operand → Type 0
-NoSourceFault profile o =
-    (second : Bool) (opcode : ℕ) → opcode < 0x17
-    → numberOf (firstFault (sourceRules (countIn profile) (profile .stage) 1 (swizzleWrong second opcode) 0 o)) ≡ 0
-
--- a token has none of these faults, wherever it stands
-abbrev pub NoOwnFault : Profile → Token → Type 0
-NoOwnFault profile t = (token : ℕ) → ownFault profile token t ≡ noRefusal

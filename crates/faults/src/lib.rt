@@ -1,10 +1,13 @@
 // Faults 1 to 8 of a program, and faults 9 to 19 of one token: the rules, and which comes first.
 mod header;
+pub mod plain;
 pub mod profile;
 mod rules;
 mod tokens;
 
 pub use header::header_fault;
+pub use plain::is_plain;
+pub use plain::usable_of;
 pub use profile::profile_of;
 pub use tokens::own_fault;
 pub use tokens::refusal;

@@ -2,7 +2,7 @@
 ghost use mathlib.Core.Path.{_≡_};
 ghost use Rattle.faults.specs.Profile.{profileOf, countIn};
 
-// Register counts stand by kind, eight bits each, so that one shift finds a count: none is above 250.
+// Register counts stand by kind, eight bits each, so that one shift finds a count.
 pub struct Profile {
     pub edition: u32,
     pub stage: u8,
@@ -12,22 +12,11 @@ pub struct Profile {
 pub fn profile_of(edition: u32, stage: u8) -> Profile
     ensures { λ r. ⌜ r ≡ profileOf edition stage ⌝ }
 {
-    let attributes = registers::register_count(0, edition, stage);
-    let constants = registers::register_count(1, edition, stage);
-    let temporaries = registers::register_count(2, edition, stage);
-    let outputs = registers::register_count(3, edition, stage);
-    let varyings = registers::register_count(4, edition, stage);
-    let samplers = registers::register_count(5, edition, stage);
-    let depths = registers::register_count(6, edition, stage);
-    let low = attributes as u64
-        + 0x100 * constants as u64
-        + 0x1_0000 * temporaries as u64
-        + 0x100_0000 * outputs as u64;
-    let high = varyings as u64 + 0x100 * samplers as u64 + 0x1_0000 * depths as u64;
+    let counts = registers::register_counts(edition, stage);
     Profile {
         edition,
         stage,
-        counts: low + 0x1_0000_0000 * high,
+        counts,
     }
 }
 

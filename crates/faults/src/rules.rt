@@ -43,13 +43,7 @@ pub(crate) fn mask_wrong(opcode: u32, used: bool, field: u64) -> bool
 {
     if used {
         let r = layout::unpack_register(field);
-        if r.mask == 0 {
-            return true;
-        }
-        if r.mask / 8 % 2 != 1 {
-            return false;
-        }
-        return is_three_wide(opcode);
+        return (r.mask == 0) | (is_three_wide(opcode) & (r.mask / 8 % 2 == 1));
     }
     false
 }

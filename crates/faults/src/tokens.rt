@@ -1,12 +1,12 @@
 // The first of faults 9 to 19 of one token; number 0 where there is none.
-ghost use mathlib.Core.Bool.{true, not, cond};
+ghost use mathlib.Core.Bool.{not, cond};
 ghost use mathlib.Core.Path.{_≡_};
 ghost use Rattle.layout.specs.Records.{sourceOf, operandOf, tokenOf};
 ghost use lib.Dec.{eqb};
 ghost use Rattle.bytecode.specs.Decode.{refusal as refused, noRefusal};
 ghost use Rattle.faults.specs.Profile.{countIn};
 ghost use Rattle.faults.specs.Order.{firstFault, sourceRules};
-ghost use Rattle.faults.specs.Faults.{numberOf, swizzleWrong, recordFault, ownFault, undecodedFault, NoSourceFault, NoOwnFault};
+ghost use Rattle.faults.specs.Faults.{numberOf, swizzleWrong, recordFault, ownFault, undecodedFault};
 use crate::profile::Profile;
 use crate::rules;
 use bytecode::answers::Refusal;
@@ -15,59 +15,8 @@ use layout::fields::Fields;
 use layout::opcodes::OperandShape;
 use layout::opcodes::Shape;
 
-// 10 and 11, then 14 to 19, of a record, from the fields that make it. Most tokens are plain, so that is tested before a fault is looked for.
+// 10 and 11, then 14 to 19, of a record, from the fields that make it.
 pub fn own_fault(profile: Profile, token: usize, shape: Shape, f: Fields) -> Refusal
-    ensures { λ r. ⌜ r ≡ ownFault profile token (tokenOf shape f) ⌝ }
-{
-    if is_plain(profile, shape, f) {
-        return refusal(0, 0, 0);
-    }
-    ordered_fault(profile, token, shape, f)
-}
-
-// Whether a token has an opcode below m33, with which rules 10, 11 and 18 have nothing to do, and plain operands, and keeps the other rules.
-fn is_plain(profile: Profile, shape: Shape, f: Fields) -> bool
-    ensures { λ r. ⌜ (r ≡ true → NoOwnFault profile (tokenOf shape f)) ⌝ }
-{
-    if 0x17 <= f.opcode {
-        return false;
-    }
-    if rules::destination_wrong(profile, shape.destination, f.destination) {
-        return false;
-    }
-    if rules::mask_wrong(f.opcode, shape.destination, f.destination) {
-        return false;
-    }
-    let shape1 = shape.source1;
-    let shape2 = shape.source2;
-    if !is_plain_operand(profile, shape1, f.source1) {
-        return false;
-    }
-    is_plain_operand(profile, shape2, f.source2)
-}
-
-fn is_plain_operand(profile: Profile, shape: OperandShape, field: u64) -> bool
-    ensures { λ r. ⌜ (r ≡ true → NoSourceFault profile (operandOf shape field)) ⌝ }
-{
-    match shape {
-        OperandShape::Unused => true,
-        OperandShape::Source => is_plain_source(profile, field),
-        OperandShape::Sampler => false,
-    }
-}
-
-// A direct source of one row that keeps its rule.
-fn is_plain_source(profile: Profile, field: u64) -> bool
-    ensures { λ r. ⌜ (r ≡ true → NoSourceFault profile (sourceOf field)) ⌝ }
-{
-    if layout::is_indexed(field) {
-        return false;
-    }
-    !rules::direct_wrong(profile, 1, layout::unpack_direct(field))
-}
-
-// The rules in their order.
-fn ordered_fault(profile: Profile, token: usize, shape: Shape, f: Fields) -> Refusal
     ensures { λ r. ⌜ r ≡ ownFault profile token (tokenOf shape f) ⌝ }
 {
     if rules::opcode_too_new(profile.edition, f.opcode) {
@@ -183,16 +132,16 @@ fn swizzle_wrong(second: bool, opcode: u32, swizzle: u8) -> bool
 }
 
 // The fault of a token that decode refuses: 10 and 11 come before 12 and 13.
-pub fn undecoded_fault(profile: Profile, token: usize, r: Refusal, opcode: u8) -> Refusal
+pub fn undecoded_fault(profile: Profile, token: usize, r: Refusal, opcode: u32) -> Refusal
     ensures { λ f. ⌜ f ≡ undecodedFault profile token r opcode ⌝ }
 {
     if r.number < 12 {
         return refusal(r.number, token, r.part);
     }
-    if rules::opcode_too_new(profile.edition, opcode as u32) {
+    if rules::opcode_too_new(profile.edition, opcode) {
         return refusal(10, token, 0);
     }
-    if rules::opcode_not_for_stage(profile.stage, opcode as u32) {
+    if rules::opcode_not_for_stage(profile.stage, opcode) {
         return refusal(11, token, 0);
     }
     refusal(r.number, token, r.part)

@@ -7,7 +7,7 @@ mod counts;
 mod limits;
 mod uses;
 
-pub use counts::register_count;
+pub use counts::register_counts;
 pub use limits::token_limit;
 pub use uses::is_readable;
 pub use uses::is_writable;

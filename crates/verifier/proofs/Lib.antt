@@ -5,6 +5,7 @@ pub mod ExactCheck
 pub mod HeaderLaw
 pub mod LoopLaw
 pub mod NextState
+pub mod PassLaw
 pub mod Stack
 pub mod StepLaw
 pub mod TokenLaw

@@ -9,16 +9,20 @@ use native.Mathlib.Numerals.{add-one}
 use native.Mathlib.Omega.{arith}
 use lib.Dec.{ltb}
 use lib.ListN.{length, take, drop, length-take, length-drop}
-use borrow.Author.Tests.{eq-eqb, ne-eqb}
+use borrow.Author.Tests.{eq-eqb, ne-eqb, le-ltb}
 use Rattle.paths.specs.Unwritten.{nothing}
 use Rattle.components.specs.Written.{componentSet, halfOf}
 use Rattle.paths.specs.Faults as faults
 use Rattle.paths.specs.Check.{start, ending, checkFrom, verdictOf}
 use Rattle.faults.specs.Rules.{stageOf, tokenCount}
 use Rattle.faults.specs.Profile.{profileOf}
+use Rattle.bytecode.specs.Decode.{noRefusal}
+use Rattle.bytecode.specs.Fields.{fieldsOf, fieldsIn}
+use Rattle.components.specs.declared.written.Written.{Written}
+use Rattle.layout.specs.declared.fields.Fields.{Fields}
 use Rattle.faults.specs.Order.{tokenAt, tokensFrom, tokensOf}
-use Rattle.verifier.specs.State.{noneWritten, startState, topOf, withTop}
-use Rattle.verifier.specs.Step.{stepOf}
+use Rattle.verifier.specs.State.{noneWritten, startState, topOf, withTop, withCurrent}
+use Rattle.verifier.specs.Step.{stepped, stepOf}
 use Rattle.verifier.specs.Verdict.{answerOf}
 use Rattle.verifier.specs.Finish.{finishOf}
 use Rattle.faults.specs.declared.profile.Profile.{Profile}
@@ -26,7 +30,7 @@ use Rattle.verifier.specs.declared.state.State.{State}
 use Rattle.verifier.specs.declared.state.Top.{Top}
 use Rattle.verifier.specs.declared.step.Stepped.{Stepped}
 use Rattle.verifier.specs.declared.answers.Checked.the-variants.{Refused}
-use Rattle.verifier.proofs.Abstract.{abstractOf, branchesIn, Valid, inside}
+use Rattle.verifier.proofs.Abstract.{abstractOf, branchesIn, Valid, own-top, inside}
 use Rattle.verifier.proofs.StepLaw.{after}
 use Rattle.verifier.proofs.TokenLaw.{steps}
 
@@ -48,6 +52,15 @@ start-is = ap (λ w. record { openBranches = []; current = w; kept = [] }) none-
 
 -- ---- one turn
 
+-- the fields that the code reads of a token that stands within the bytes
+pub fields-read : (bytes : List ℕ) (n : ℕ) → 7 + n * 24 + 24 ≤ length bytes
+    → fieldsIn (take (7 + n * 24 + 24 - (7 + n * 24)) (drop (7 + n * 24) bytes)) ≡ fieldsOf (tokenAt bytes n)
+unfolding fieldsIn
+fields-read bytes n h =
+    let width : 7 + n * 24 + 24 - (7 + n * 24) ≡ 24 = omega arith in
+    let enough : 24 ≤ length (tokenAt bytes n) = simp (length-take, length-drop) (omega arith) in
+    ap (λ k. fieldsIn (take k (drop (7 + n * 24) bytes))) width ∙ rw (le-ltb (length (tokenAt bytes n)) 24 enough)
+
 -- how many tokens are left at token n
 abbrev pub left : List ℕ → ℕ → ℕ
 left bytes n = tokenCount bytes - n
@@ -57,24 +70,23 @@ module _ (edition : ℕ) (bytes : List ℕ) where
   abbrev pub answerFrom : State → ℕ → ℕ → faults.Answer
   answerFrom st n left = checkFrom (abstractOf st) n (tokensFrom edition bytes n left)
 
-  pub begins : (st : State) → st ≡ startState → answerFrom st 0 (left bytes 0) ≡ verdictOf (tokensOf edition bytes)
-  begins st e =
+  pub begins : answerFrom startState 0 (left bytes 0) ≡ verdictOf (tokensOf edition bytes)
+  begins =
       let all : left bytes 0 ≡ tokenCount bytes = omega arith in
-      ap₂ (λ a k. checkFrom a 0 (tokensFrom edition bytes 0 k)) (ap abstractOf e ∙ start-is) all
+      ap₂ (λ a k. checkFrom a 0 (tokensFrom edition bytes 0 k)) start-is all
 
   module _ (header : 7 ≤ length bytes) (st : State) (v : Valid st) (n : ℕ) (l : n < tokenCount bytes) where
     token-length : length (tokenAt bytes n) ≡ 24
     token-length = simp (length-take, length-drop) (omega arith)
 
-    -- the profile, the top and the step as the code makes them
-    module _ (profile : Profile) (made : profile ≡ profileOf edition (stageOf bytes)) (top : Top) (taken : top ≡ topOf st) (r : Stepped)
-        (stepped : r ≡ stepOf top profile n (take (7 + n * 24 + 24 - (7 + n * 24)) (drop (7 + n * 24) bytes))) where
-      as-stepped : r ≡ stepOf (topOf st) (profileOf edition (stageOf bytes)) n (tokenAt bytes n)
+    -- the profile, the fields, the top and the step as the code makes them
+    module _ (profile : Profile) (made : profile ≡ profileOf edition (stageOf bytes)) (f : Fields) (read : f ≡ fieldsOf (tokenAt bytes n))
+        (top : Top) (taken : top ≡ topOf st) (r : Stepped) (made-of : r ≡ stepOf top profile n f) where
+      as-stepped : r ≡ stepOf (topOf st) (profileOf edition (stageOf bytes)) n (fieldsOf (tokenAt bytes n))
       as-stepped =
-          let width : 7 + n * 24 + 24 - (7 + n * 24) ≡ 24 = omega arith in
-          stepped
-          ∙ ap (λ t. stepOf t profile n (take (7 + n * 24 + 24 - (7 + n * 24)) (drop (7 + n * 24) bytes))) taken
-          ∙ ap₂ (λ p k. stepOf (topOf st) p n (take k (drop (7 + n * 24) bytes))) made width
+          made-of
+          ∙ ap (λ t. stepOf t profile n f) taken
+          ∙ ap₂ (λ p g. stepOf (topOf st) p n g) made read
 
       turn : answerFrom st n (left bytes n) ≡ after st r n (tokensFrom edition bytes (n + 1) (left bytes (n + 1)))
       turn =
@@ -96,12 +108,27 @@ module _ (edition : ℕ) (bytes : List ℕ) where
         pub goes-on : r .fault .number ≡ 0 → answerFrom st n (left bytes n) ≡ answerFrom next (n + 1) (left bytes (n + 1))
         goes-on z = turn ∙ rw (eq-eqb (r .fault .number) 0 z, ← add-one n) (ap (λ s. answerFrom s (n + 1) (left bytes (n + 1))) (sym put))
 
+    -- a turn that passes a token at a glance
+    module _ (f : Fields) (read : f ≡ fieldsOf (tokenAt bytes n)) (w : Written)
+        (passed : stepOf (topOf st) (profileOf edition (stageOf bytes)) n f ≡ stepped noRefusal (withCurrent (topOf st) w)) where
+      abbrev next : State
+      next = record { current = w; depth = st .depth; branches = st .branches }
+
+      put : next ≡ withTop st (withCurrent (topOf st) w)
+      put = sym (ap (λ s. record { current = w; depth = s .depth; branches = s .branches }) (own-top st))
+
+      pub pass-valid : Valid next
+      pass-valid = turn-valid (profileOf edition (stageOf bytes)) refl f read (topOf st) refl (stepped noRefusal (withCurrent (topOf st) w)) (sym passed) next put
+
+      pub pass-goes-on : answerFrom st n (left bytes n) ≡ answerFrom next (n + 1) (left bytes (n + 1))
+      pass-goes-on = goes-on (profileOf edition (stageOf bytes)) refl f read (topOf st) refl (stepped noRefusal (withCurrent (topOf st) w)) (sym passed) next put refl
+
   -- ---- after the last token
 
-  pub ends : (st : State) → Valid st → (n : ℕ) → answerOf bytes (answerFrom st n 0) ≡ finishOf st (stageOf bytes) (tokenCount bytes)
+  pub ends : (st : State) → Valid st → (n : ℕ) → answerOf bytes (answerFrom st n 0) ≡ finishOf (st .depth) (topOf st .branch .opener) (stageOf bytes) (tokenCount bytes)
   unfolding checkFrom finishOf
   ends st v n = go (st .depth) refl
     where
-      go : (d : ℕ) → st .depth ≡ d → answerOf bytes (ending (branchesIn st)) ≡ finishOf st (stageOf bytes) (tokenCount bytes)
+      go : (d : ℕ) → st .depth ≡ d → answerOf bytes (ending (branchesIn st)) ≡ finishOf (st .depth) (topOf st .branch .opener) (stageOf bytes) (tokenCount bytes)
       go zero e = rw (eq-eqb (st .depth) 0 e, e)
       go (suc d) e = rw (ne-eqb (st .depth) 0 (λ z. omega (arith, e, z)), inside st v d e, e)

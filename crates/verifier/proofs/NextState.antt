@@ -20,7 +20,7 @@ use Rattle.paths.specs.Check as check
 use Rattle.paths.specs.Check.{currentAt, keptAt, keptAfter}
 use Rattle.components.specs.declared.written.Written.{Written}
 use Rattle.components.proofs.WrittenLaws.{in-join, in-written}
-use Rattle.verifier.specs.State.{blankBranch, slotOf, slotAfter, topOf, withTop, isMisplaced, joined, metTop, opened, partedTop, wroteTop, withCurrent}
+use Rattle.verifier.specs.State.{blankBranch, slotOf, slotAfter, topOf, withTop, isMisplaced, joined, metTop, opened, partedTop, writtenBy, wroteTop, withCurrent}
 use Rattle.verifier.specs.declared.state.Flow as code
 use Rattle.verifier.specs.declared.state.Flow.the-variants.{Plain, Opener, Els, Eif}
 use Rattle.verifier.specs.declared.state.Branch.{Branch}
@@ -39,12 +39,7 @@ Kept (Masked r) = r .kind ≡ 2 → r .number < 32
 pub wrote-is : (t : Top) (d : Destination) → Kept d
     → (w : Written) × (wroteTop t d ≡ withCurrent t w) × (componentSet w ≡ adds (componentSet (t .current)) (temporaries (writesInto d)))
 wrote-is t NoDestination h = (t .current, refl, fun-ext (λ c. sym (or-false (componentSet (t .current) c))))
-wrote-is t (Masked r) h =
-    (cond (eqb (r .kind) 2) (markOf (t .current) (r .number) (r .mask)) (t .current), go (eqb (r .kind) 2), fun-ext (in-written (t .current) r h))
-  where
-    go : (b : Bool) → cond b (withCurrent t (markOf (t .current) (r .number) (r .mask))) t ≡ withCurrent t (cond b (markOf (t .current) (r .number) (r .mask)) (t .current))
-    go true = refl
-    go false = refl
+wrote-is t (Masked r) h = (writtenBy (t .current) r, refl, fun-ext (in-written (t .current) r h))
 
 -- ---- the state by its parts
 

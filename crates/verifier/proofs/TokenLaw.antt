@@ -7,14 +7,15 @@ use mathlib.Core.Option.{Option, none, some}
 use mathlib.Core.Path.{_≡_, refl, _∙_, sym, ap, subst}
 use native.Mathlib.Omega.{arith}
 use lib.Dec.{eqb, ltb}
-use lib.ListN.{length, getD}
+use lib.ListN.{length}
 use borrow.Author.Tests.{eq-eqb, ne-eqb}
-use Rattle.bytecode.specs.Decode.{refusal, decodeOf}
+use Rattle.bytecode.specs.Decode.{refusal, isClean, tokenFault, decodeOf}
+use Rattle.bytecode.specs.Fields.{fieldsOf}
 use Rattle.bytecode.specs.declared.answers.Refusal.{Refusal}
-use Rattle.bytecode.specs.declared.answers.Decoded.{Decoded}
 use Rattle.bytecode.specs.declared.answers.Decoded.the-variants.{Token as Accepted, Refused}
+use Rattle.layout.specs.Opcodes.{shapeOf}
 use Rattle.layout.specs.declared.record.Token.{Token}
-use Rattle.bytecode.proofs.DecodeLaws.{was-refused}
+use Rattle.bytecode.proofs.DecodeLaws.{was-refused, no-faults, with-fault, clean-none, clean-by, not-clean}
 use Rattle.registers.specs.Counts.{countOf}
 use Rattle.paths.specs.Paths.{TokenFault, PathToken}
 use Rattle.components.specs.Tokens.{pathTokenOf}
@@ -24,7 +25,7 @@ use Rattle.faults.specs.Profile.{profileOf}
 use Rattle.faults.specs.Order.{firstFault, tokenRules, recordOf, pathTokenAt}
 use Rattle.faults.specs.Faults.{refusalAt, ownFault, undecodedFault}
 use Rattle.verifier.specs.State.{topOf, withTop}
-use Rattle.verifier.specs.Step.{stepped, followOf, takeOf, decidedOf, stepOf}
+use Rattle.verifier.specs.Step.{stepped, followOf, takeOf, stepOf}
 use Rattle.faults.specs.declared.profile.Profile.{Profile}
 use Rattle.verifier.specs.declared.state.State.{State}
 use Rattle.verifier.specs.declared.step.Stepped.{Stepped}
@@ -72,15 +73,15 @@ module _ (edition stage n : ℕ) (s : List ℕ) (h : length s ≡ 24) (st : Stat
   Steps : Stepped → Type 0
   Steps r = (checkFrom (abstractOf st) n (pathTokenOf own (recordOf s) ∷ rest) ≡ after st r n rest) × Valid (withTop st (r .top))
 
-  when-refused : (r : Refusal) → decodeOf s ≡ Refused r → Steps (stepped (undecodedFault profile n r (getD s 0 0)) (topOf st))
+  when-refused : (r : Refusal) → decodeOf s ≡ Refused r → Steps (stepped (undecodedFault profile n r (fieldsOf s .opcode)) (topOf st))
   unfolding Steps
   when-refused r e = go own refl
     where
-      q : refusalAt n own ≡ undecodedFault profile n r (getD s 0 0)
+      q : refusalAt n own ≡ undecodedFault profile n r (fieldsOf s .opcode)
       q = refused-fault edition stage n s h r e
 
-      go : (o : Option TokenFault) → own ≡ o → (checkFrom (abstractOf st) n (pathTokenOf own (recordOf s) ∷ rest) ≡ after st (stepped (undecodedFault profile n r (getD s 0 0)) (topOf st)) n rest) × Valid (withTop st (topOf st))
-      go none k = absurd (undecoded-fault profile n r (getD s 0 0) (was-refused s r h e .1) (sym (ap (λ x. x .number) (sym (ap (refusalAt n) k) ∙ q))))
+      go : (o : Option TokenFault) → own ≡ o → (checkFrom (abstractOf st) n (pathTokenOf own (recordOf s) ∷ rest) ≡ after st (stepped (undecodedFault profile n r (fieldsOf s .opcode)) (topOf st)) n rest) × Valid (withTop st (topOf st))
+      go none k = absurd (undecoded-fault profile n r (fieldsOf s .opcode) (was-refused s r h e .1) (sym (ap (λ x. x .number) (sym (ap (refusalAt n) k) ∙ q))))
       go (some f) k = (at-fault f k _ q .0, valid-own st v)
 
   when-taken : (t : Token) → decodeOf s ≡ Accepted t → Steps (takeOf (topOf st) profile n t)
@@ -108,10 +109,11 @@ module _ (edition stage n : ℕ) (s : List ℕ) (h : length s ≡ 24) (st : Stat
           let (a, z) = at-fault f k _ q in
           rw (ne-eqb (ownFault profile n t .number) 0 z) (a, valid-own st v)
 
-  pub steps : (checkFrom (abstractOf st) n (pathTokenAt (λ k. countOf k edition stage) edition stage s ∷ rest) ≡ after st (stepOf (topOf st) profile n s) n rest) × Valid (withTop st (stepOf (topOf st) profile n s .top))
-  unfolding Steps
-  steps = go (decodeOf s) refl
+  pub steps : (checkFrom (abstractOf st) n (pathTokenAt (λ k. countOf k edition stage) edition stage s ∷ rest) ≡ after st (stepOf (topOf st) profile n (fieldsOf s)) n rest) × Valid (withTop st (stepOf (topOf st) profile n (fieldsOf s) .top))
+  unfolding Steps stepOf
+  steps = go (isClean (shapeOf (fieldsOf s .opcode)) (fieldsOf s)) refl
     where
-      go : (d : Decoded) → decodeOf s ≡ d → Steps (decidedOf (topOf st) profile n s d)
-      go (Accepted t) e = when-taken t e
-      go (Refused r) e = when-refused r e
+      go : (b : Bool) → isClean (shapeOf (fieldsOf s .opcode)) (fieldsOf s) ≡ b
+          → Steps (cond b (takeOf (topOf st) profile n (recordOf s)) (stepped (undecodedFault profile n (tokenFault (shapeOf (fieldsOf s .opcode)) (fieldsOf s)) (fieldsOf s .opcode)) (topOf st)))
+      go true e = when-taken (recordOf s) (sym (no-faults s h (ap (λ r. r .number) (clean-none _ _ (clean-by _ _ e))) .answer))
+      go false e = when-refused (tokenFault (shapeOf (fieldsOf s .opcode)) (fieldsOf s)) (sym (with-fault s h (not-clean _ _ e) .answer))

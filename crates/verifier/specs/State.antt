@@ -105,9 +105,12 @@ partedTop t Opener n = opened t n
 partedTop t Els n = t
 partedTop t Eif n = t
 
--- a temporary that is written
+-- a set with what is written to a register, where that is a temporary one
+abbrev pub writtenBy : Written → MaskedRegister → Written
+writtenBy w r = cond (eqb (r .kind) 2) (markOf w (r .number) (r .mask)) w
+
 abbrev pub marked : Top → MaskedRegister → Top
-marked t r = cond (eqb (r .kind) 2) (withCurrent t (markOf (t .current) (r .number) (r .mask))) t
+marked t r = withCurrent t (writtenBy (t .current) r)
 
 abbrev pub wroteTop : Top → Destination → Top
 wroteTop t NoDestination = t

@@ -1,13 +1,12 @@
 -- One token of the check, on what it can touch of the state that the code keeps.
 use Prim.Native.Nat.{ℕ}
 use mathlib.Core.Bool.{cond}
-use mathlib.Core.List.{List}
 use lib.Dec.{eqb}
-use lib.ListN.{getD}
-use Rattle.bytecode.specs.Decode.{refusal, noRefusal, decodeOf}
+use Rattle.bytecode.specs.Decode.{refusal, noRefusal, isClean, tokenFault}
 use Rattle.bytecode.specs.declared.answers.Refusal.{Refusal}
-use Rattle.bytecode.specs.declared.answers.Decoded.{Decoded}
-use Rattle.bytecode.specs.declared.answers.Decoded.the-variants.{Token as Accepted, Refused}
+use Rattle.layout.specs.Opcodes.{shapeOf}
+use Rattle.layout.specs.Records.{tokenOf}
+use Rattle.layout.specs.declared.fields.Fields.{Fields}
 use Rattle.layout.specs.declared.record.Token.{Token}
 use Rattle.components.specs.Access.{lacksAccess, access1Of, access2Of}
 use Rattle.faults.specs.Faults.{ownFault, undecodedFault}
@@ -35,9 +34,9 @@ unfoldable pub takeOf : Top → Profile → ℕ → Token → Stepped
 takeOf st profile token t =
     cond (eqb (ownFault profile token t .number) 0) (followOf st token t) (stepped (ownFault profile token t) st)
 
-abbrev pub decidedOf : Top → Profile → ℕ → List ℕ → Decoded → Stepped
-decidedOf st profile token bytes (Accepted t) = takeOf st profile token t
-decidedOf st profile token bytes (Refused r) = stepped (undecodedFault profile token r (getD bytes 0 0)) st
-
-abbrev pub stepOf : Top → Profile → ℕ → List ℕ → Stepped
-stepOf st profile token bytes = decidedOf st profile token bytes (decodeOf bytes)
+-- a token that decode takes, or the fault of one that it refuses
+unfoldable pub stepOf : Top → Profile → ℕ → Fields → Stepped
+stepOf st profile token f =
+    cond (isClean (shapeOf (f .opcode)) f)
+    (takeOf st profile token (tokenOf (shapeOf (f .opcode)) f))
+    (stepped (undecodedFault profile token (tokenFault (shapeOf (f .opcode)) f) (f .opcode)) st)

@@ -1,17 +1,19 @@
 // The whole check of a program.
 ghost use mathlib.Core.Path.{_≡_};
-ghost use Prim.Native.Nat.{_≤_};
+ghost use Prim.Native.Nat.{_+_, _*_, _≤_};
 ghost use lib.ListN.{length};
 ghost use Rattle.paths.specs.Check.{verdictOf};
-ghost use Rattle.faults.specs.Order.{tokensOf};
+ghost use Rattle.bytecode.specs.Fields.{fieldsOf};
+ghost use Rattle.faults.specs.Order.{tokenAt, tokensOf};
 ghost use Rattle.verifier.specs.Verdict.{answerOf};
 ghost use Rattle.verifier.specs.Finish.{finishOf};
 ghost use Rattle.verifier.specs.Exact.{Checks};
 use crate::answers::Checked;
 use crate::answers::Program;
+use crate::plain;
 use crate::state;
-use crate::state::State;
 use crate::state::Top;
+use layout::fields::Fields;
 
 // Judges a program under an edition, in one pass over its tokens.
 pub fn check(edition: u32, bytes: &[u8]) -> Checked
@@ -32,21 +34,22 @@ fn check_tokens(edition: u32, bytes: &[u8]) -> Checked
     let stage = bytes[6];
     let count = (bytes.len() - 7) / 24;
     let profile = faults::profile_of(edition, stage);
-    let mut state = State::start();
+    let usable = faults::usable_of(stage, profile.counts);
+    let mut state = state::START;
     let mut token = 0;
     while token < count {
-        let at = 7 + token * 24;
-        let end = at + 24;
+        let f = fields_at(bytes, token);
         let current = state.current;
+        let passed = plain::pass(usable, current, f);
+        if passed.known {
+            let current = passed.current;
+            state.current = current;
+            token += 1;
+            continue;
+        }
         let depth = state.depth;
         let innermost = state.branches[state::slot(depth)];
-        let branch = innermost.copied();
-        let top = Top {
-            current,
-            depth,
-            branch,
-        };
-        let stepped = top.step(profile, token, &bytes[at..end]);
+        let stepped = Top::new(current, depth, innermost.copied()).step(profile, token, f);
         let fault = stepped.fault;
         if fault.number != 0 {
             return Checked::Refused(fault);
@@ -60,17 +63,27 @@ fn check_tokens(edition: u32, bytes: &[u8]) -> Checked
         state.depth = next.depth;
         token += 1;
     }
-    finish(state, stage, count)
+    let depth = state.depth;
+    let innermost = state.branches[state::slot(depth)];
+    finish(depth, innermost.opener, stage, count)
 }
 
-// The end of the check: 22 where a branch is still open.
-fn finish(state: State, stage: u8, tokens: usize) -> Checked
-    ensures { λ r. ⌜ r ≡ finishOf state stage tokens ⌝ }
+// The fields of a token.
+fn fields_at(bytes: &[u8], token: usize) -> Fields
+    requires { ⌜ 7 + token * 24 + 24 ≤ length (now bytes) ⌝ }
+    ensures { λ r. ⌜ r ≡ fieldsOf (tokenAt (now (bytes .entry)) token) ⌝ }
 {
-    let depth = state.depth;
-    let branch = state.branches[state::slot(depth)];
+    let at = 7 + token * 24;
+    let end = at + 24;
+    bytecode::fields_of(&bytes[at..end])
+}
+
+// The end of the check: 22 where a branch is still open, at its opener.
+fn finish(depth: usize, opener: usize, stage: u8, tokens: usize) -> Checked
+    ensures { λ r. ⌜ r ≡ finishOf depth opener stage tokens ⌝ }
+{
     if depth == 0 {
         return Checked::Accepted(Program { stage, tokens });
     }
-    Checked::Refused(faults::refusal(22, branch.opener, 0))
+    Checked::Refused(faults::refusal(22, opener, 0))
 }

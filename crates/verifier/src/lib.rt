@@ -3,6 +3,7 @@
 // Header, one-token step and end are functions of their own, so that a program can be judged token by token.
 pub mod answers;
 mod checking;
+mod plain;
 mod state;
 mod step;
 

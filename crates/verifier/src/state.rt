@@ -3,7 +3,7 @@
 ghost use mathlib.Core.Path.{_≡_};
 ghost use Prim.Native.Nat.{_<_};
 ghost use Rattle.layout.specs.Records.{destinationOf};
-ghost use Rattle.verifier.specs.State.{flowOfCode, startState, slotOf, slotAfter, isMisplaced, exchanged as exchangedTop, joined as joinedTop, metTop, opened as openedTop, partedTop, marked as markedTop, wroteTop};
+ghost use Rattle.verifier.specs.State.{flowOfCode, slotOf, slotAfter, isMisplaced, exchanged as exchangedTop, joined as joinedTop, metTop, opened as openedTop, partedTop, writtenBy, marked as markedTop, wroteTop};
 use components::written;
 use components::written::Written;
 use layout::record::MaskedRegister;
@@ -44,6 +44,17 @@ pub struct State {
     pub branches: [Branch; 16],
 }
 
+// Before the first token nothing is written and no branch is open.
+pub const START: State = State {
+    current: Written { low: 0, high: 0 },
+    depth: 0,
+    branches: [Branch {
+        opener: 0,
+        els_met: false,
+        kept: Written { low: 0, high: 0 },
+    }; 16],
+};
+
 // What a token can touch: the set at hand, how many branches are open, and the innermost of them.
 pub struct Top {
     pub current: Written,
@@ -69,25 +80,6 @@ pub(crate) fn flow_of(opcode: u32) -> Flow
     Flow::Plain
 }
 
-impl State {
-    // Before the first token nothing is written and no branch is open.
-    pub(crate) fn start() -> State
-        ensures { λ r. ⌜ r ≡ startState ⌝ }
-    {
-        let none = Written { low: 0, high: 0 };
-        let blank = Branch {
-            opener: 0,
-            els_met: false,
-            kept: none,
-        };
-        State {
-            current: none,
-            depth: 0,
-            branches: [blank; 16],
-        }
-    }
-}
-
 // Where the innermost of so many open branches stands in the array. Every number has a place, and the state that has no open branch keeps
 // what stands there.
 pub(crate) fn slot(depth: usize) -> usize
@@ -107,6 +99,16 @@ pub(crate) fn slot_after(before: usize, after: usize) -> usize
 }
 
 impl Top {
+    pub(crate) fn new(current: Written, depth: usize, branch: Branch) -> Top
+        ensures { λ r. ⌜ r ≡ record { current = current; depth = depth; branch = branch } ⌝ }
+    {
+        Top {
+            current,
+            depth,
+            branch,
+        }
+    }
+
     // Fault 20.
     pub(crate) fn is_misplaced(self, flow: Flow) -> bool
         ensures { λ r. ⌜ r ≡ isMisplaced self flow ⌝ }
@@ -213,13 +215,20 @@ impl Top {
     fn marked(self, register: MaskedRegister) -> Top
         ensures { λ r. ⌜ r ≡ markedTop self register ⌝ }
     {
-        if register.kind != 2 {
-            return self;
-        }
         let current = self.current;
-        let more = written::mark(current, register.number, register.mask);
+        let more = written_by(current, register);
         let mut next = self;
         next.current = more;
         next
     }
+}
+
+// A set with what is written to a register, where that is a temporary one.
+pub(crate) fn written_by(current: Written, register: MaskedRegister) -> Written
+    ensures { λ r. ⌜ r ≡ writtenBy current register ⌝ }
+{
+    if register.kind != 2 {
+        return current;
+    }
+    written::mark(current, register.number, register.mask)
 }

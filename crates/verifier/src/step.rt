@@ -1,6 +1,5 @@
 // One token: the first fault that it has, or the next state.
 ghost use mathlib.Core.Path.{_≡_};
-ghost use lib.ListN.{getD};
 ghost use Rattle.layout.specs.Records.{tokenOf};
 ghost use Rattle.verifier.specs.Step.{stepOf, takeOf, followOf};
 use crate::state;
@@ -9,6 +8,7 @@ use bytecode::answers::Refusal;
 use components::access;
 use faults::profile::Profile;
 use layout::fields::Fields;
+use layout::opcodes;
 use layout::opcodes::Shape;
 
 // A fault with number 0 is none, and only then is the top the next one.
@@ -18,19 +18,17 @@ pub struct Stepped {
 }
 
 impl Top {
-    // Judges the bytes of one token, whose number is `token`.
-    pub(crate) fn step(self, profile: Profile, token: usize, bytes: &[u8]) -> Stepped
-        ensures { λ r. ⌜ r ≡ stepOf self profile token (now (bytes .entry)) ⌝ }
+    // Judges one token, whose number is `token`, by its fields.
+    pub(crate) fn step(self, profile: Profile, token: usize, f: Fields) -> Stepped
+        ensures { λ r. ⌜ r ≡ stepOf self profile token f ⌝ }
     {
-        let found = bytecode::examine(bytes);
-        let refused = found.fault;
-        if refused.number != 0 {
-            let fault = faults::undecoded_fault(profile, token, refused, first_byte(bytes));
-            return Stepped { fault, top: self };
+        let shape = opcodes::shape_of(f.opcode);
+        if bytecode::is_clean(shape, f) {
+            return self.take(profile, token, shape, f);
         }
-        let shape = found.shape;
-        let f = found.fields;
-        self.take(profile, token, shape, f)
+        let refused = bytecode::fault_of(shape, f);
+        let fault = faults::undecoded_fault(profile, token, refused, f.opcode);
+        Stepped { fault, top: self }
     }
 
     // Faults 10 to 19 of a record come before those of branches and paths.
@@ -68,13 +66,4 @@ impl Top {
             .parted(flow, token);
         Stepped { fault, top: next }
     }
-}
-
-fn first_byte(bytes: &[u8]) -> u8
-    ensures { λ r. ⌜ r ≡ getD (now (bytes .entry)) 0 0 ⌝ }
-{
-    if bytes.len() < 1 {
-        return 0;
-    }
-    bytes[0]
 }

@@ -1,10 +1,10 @@
--- `ordered_fault` meets its contract.
+-- `own_fault` meets its contract.
 -- Assumes nothing.
 use Rattle.layout.specs.Records.{tokenOf}
 use Rattle.faults.specs.Faults.{ownFault}
 use borrow.Author.Needs.{needs}
-use Rattle.faults.proofs.tokens.ordered_fault.Statement.{statement}
-use Rattle.faults.proofs.tokens.ordered_fault.Tie as tie
+use Rattle.faults.proofs.tokens.own_fault.Statement.{statement}
+use Rattle.faults.proofs.tokens.own_fault.Tie as tie
 
 opcode-too-new-requires : tie.Need-opcode-too-new-requires
 opcode-too-new-requires c κs = search needs
@@ -47,8 +47,8 @@ returns-3 c =
       c .record-fault .ensures,
     )
 
-pub ordered-fault-spec : {M : Type 1} → statement M
-ordered-fault-spec =
+pub own-fault-spec : {M : Type 1} → statement M
+own-fault-spec =
     tie.close
     (tie.spec
     opcode-too-new-requires

@@ -1,7 +1,7 @@
 -- `swizzle_wrong` meets its contract.
 -- Assumes nothing.
 use mathlib.Core.Path.{sym}
-use Rattle.faults.proofs.Plain.{not-swizzled}
+use Rattle.faults.proofs.PlainToken.{not-swizzled}
 use borrow.Author.Needs.{needs}
 use Rattle.faults.proofs.tokens.swizzle_wrong.Statement.{statement}
 use Rattle.faults.proofs.tokens.swizzle_wrong.Tie as tie

@@ -1,0 +1,38 @@
+-- `is_plain_source` meets its contract.
+-- Assumes nothing.
+use Rattle.faults.specs.Plain.{isPlainSource}
+use borrow.Author.Needs.{needs}
+use Rattle.faults.proofs.plain.is_plain_source.Statement.{statement}
+use Rattle.faults.proofs.plain.is_plain_source.Tie as tie
+
+unpack-direct-requires : tie.Need-unpack-direct-requires
+unpack-direct-requires c κs = search needs
+
+source-bits-requires : tie.Need-source-bits-requires
+source-bits-requires c κs = search needs
+
+is-stray-requires : tie.Need-is-stray-requires
+is-stray-requires c κs = search needs
+
+count-at-requires : tie.Need-count-at-requires
+count-at-requires c κs = search needs
+
+returns : tie.Need-returns
+unfolding isPlainSource
+returns c =
+    simp (
+      c .before .count-at .ensures,
+      c .before .before .is-stray .ensures,
+      c .before .before .before .source-bits .ensures,
+      c .before .before .before .before .unpack-direct .ensures,
+    )
+
+pub is-plain-source-spec : {M : Type 1} → statement M
+is-plain-source-spec =
+    tie.close
+    (tie.spec
+    unpack-direct-requires
+    source-bits-requires
+    is-stray-requires
+    count-at-requires
+    returns)

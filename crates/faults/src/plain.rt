@@ -1,0 +1,90 @@
+// Plain tokens: a few tests of their fields tell that they have no fault. Most tokens are plain; the others are judged rule by rule.
+ghost use mathlib.Core.Path.{_≡_};
+ghost use Rattle.faults.specs.Plain.{usableOf, countAt, isSource, plainSourceBits, isPlainDestination, isPlainSource, isPlain};
+use crate::rules;
+use layout::bits;
+use layout::fields::Fields;
+use layout::opcodes;
+use layout::opcodes::OperandShape;
+
+// How many registers of each kind a source may name, and a destination: eight bits for each kind, 0 for a kind that the stage does not read,
+// or write.
+pub struct Usable {
+    pub readable: u64,
+    pub writable: u64,
+}
+
+// The bits that a plain operand may have: its kind is below 8, and a source is direct and has no offset.
+const DESTINATION_BITS: u64 = 0x070F_FFFF;
+
+const SOURCE_BITS: u64 = 0x0003_0F07_FF00_FFFF;
+
+// From the counts of a profile: a vertex program reads kinds 0, 1 and 2 and writes 2, 3 and 4, a fragment program reads 1, 2 and 4 and
+// writes 2, 3 and 6.
+pub fn usable_of(stage: u8, counts: u64) -> Usable
+    ensures { λ r. ⌜ r ≡ usableOf stage counts ⌝ }
+{
+    if stage == 0 {
+        return Usable {
+            readable: counts & 0xFF_FFFF,
+            writable: counts & 0xFF_FFFF_0000,
+        };
+    }
+    Usable {
+        readable: counts & 0xFF_00FF_FF00,
+        writable: counts & 0xFF_0000_FFFF_0000,
+    }
+}
+
+// Whether a token is plain. Each opcode below m33 has a destination and one or two sources, and few rules.
+pub fn is_plain(usable: Usable, f: Fields) -> bool
+    ensures { λ r. ⌜ r ≡ isPlain usable f ⌝ }
+{
+    if 0x17 <= f.opcode {
+        return false;
+    }
+    let shape = opcodes::shape_of(f.opcode);
+    let shape2 = shape.source2;
+    is_plain_destination(usable.writable, f.opcode, f.destination)
+        & is_plain_source(usable.readable, true, f.source1)
+        & is_plain_source(usable.readable, is_source(shape2), f.source2)
+}
+
+fn is_plain_destination(writable: u64, opcode: u32, field: u64) -> bool
+    ensures { λ r. ⌜ r ≡ isPlainDestination writable opcode field ⌝ }
+{
+    let r = layout::unpack_register(field);
+    !bits::is_stray(DESTINATION_BITS, field)
+        & (r.number < count_at(writable, r.kind))
+        & !rules::mask_wrong(opcode, true, field)
+}
+
+// A source that is not used is 0.
+fn is_plain_source(readable: u64, used: bool, field: u64) -> bool
+    ensures { λ r. ⌜ r ≡ isPlainSource readable used field ⌝ }
+{
+    let s = layout::unpack_direct(field);
+    !bits::is_stray(source_bits(used), field) & (!used | (s.number < count_at(readable, s.kind)))
+}
+
+fn source_bits(used: bool) -> u64
+    ensures { λ r. ⌜ r ≡ plainSourceBits used ⌝ }
+{
+    if used { SOURCE_BITS } else { 0 }
+}
+
+fn is_source(shape: OperandShape) -> bool
+    ensures { λ r. ⌜ r ≡ isSource shape ⌝ }
+{
+    match shape {
+        OperandShape::Unused => false,
+        OperandShape::Source => true,
+        OperandShape::Sampler => false,
+    }
+}
+
+fn count_at(counts: u64, kind: u8) -> u16
+    ensures { λ r. ⌜ r ≡ countAt counts kind ⌝ }
+{
+    ((counts >> (8 * (kind % 8) as u32)) % 256) as u16
+}

@@ -1,0 +1,34 @@
+// Tokens that are passed at a glance: plain ones, that read no register which may lack something. Most are. They leave branches alone, so
+// the set at hand is all of the state that they touch.
+ghost use mathlib.Core.Bool.{true};
+ghost use mathlib.Core.Path.{_≡_};
+ghost use Rattle.verifier.specs.Pass.{Passes};
+use crate::state;
+use components::access;
+use components::written::Written;
+use faults::plain::Usable;
+use layout::fields::Fields;
+
+// Whether a token is known to have no fault, and then the set after it.
+pub struct Passed {
+    pub known: bool,
+    pub current: Written,
+}
+
+pub(crate) fn pass(usable: Usable, current: Written, f: Fields) -> Passed
+    ensures { λ r. ⌜ (r .known ≡ true → Passes usable current f (r .current)) ⌝ }
+{
+    let lacks = access::lacks_some(current, 1, f.source1)
+        | access::lacks_some(current, 1, f.source2);
+    if lacks | !faults::is_plain(usable, f) {
+        return Passed {
+            known: false,
+            current,
+        };
+    }
+    let next = state::written_by(current, layout::unpack_register(f.destination));
+    Passed {
+        known: true,
+        current: next,
+    }
+}
