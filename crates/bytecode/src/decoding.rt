@@ -63,12 +63,15 @@ pub fn fault_of(shape: Shape, f: Fields) -> Refusal
 pub fn is_clean(shape: Shape, f: Fields) -> bool
     ensures { λ r. ⌜ r ≡ isClean shape f ⌝ }
 {
+    if !shape.listed {
+        return false;
+    }
     let shape1 = shape.source1;
     let shape2 = shape.source2;
     let destination = bits::is_stray(bits::destination_bits(shape.destination), f.destination);
     let source1 = bits::is_stray(bits::operand_bits(shape1), f.source1);
     let source2 = bits::is_stray(bits::operand_bits(shape2), f.source2);
-    shape.listed & !(destination | source1 | source2)
+    !(destination | source1 | source2)
 }
 
 // The lowest part that is unused and not 0, or 0.

@@ -1,21 +1,21 @@
 -- A plain token, as the tests tell it, has no fault of fields and none of faults 10 to 19.
 -- Assumes nothing.
-use Prim.Native.Nat.{ℕ, _+_, _*_, _/_, _%_, _^_, _≤_, _<_}
+use Prim.Native.Nat.{ℕ, _+_, _*_, _%_, _^_, _<_}
 use mathlib.Core.Bool.{Bool, true, false, not, cond, _&&_, _||_, and-false, false≢true, true≢false}
 use mathlib.Core.Path.{_≡_, refl, _∙_, ap, sym, subst}
 use native.Mathlib.Decide.{decLt}
-use native.Mathlib.Nat.{zero-div, mod-eq-of-lt}
+use native.Mathlib.Nat.{zero-div}
 use native.Mathlib.Omega.{arith}
-use lib.Bits.{bitAnd, and-zero-l}
-use lib.Dec.{T, eqb, ltb, leb, eqb→eq}
-use borrow.Author.Tests.{eq-eqb, ne-eqb, le-leb, lt-leb, lt-ltb, le-ltb, ltb-true, leb-false, eqb-true, not-true}
+use lib.Bits.{bitAnd}
+use lib.Dec.{eqb, ltb, leb, eqb→eq}
+use borrow.Author.Tests.{eq-eqb, ne-eqb, lt-leb, le-ltb, ltb-true, leb-false, eqb-true, not-true}
 use Rattle.laws.specs.Tests.{every}
 use Rattle.laws.proofs.Every.{below, left, right, both-left, both-right, either-right}
 use Rattle.bytecode.specs.Decode.{noRefusal, isClean}
 use Rattle.bytecode.proofs.DecodeLaws.{Clean, is-clean}
 use Rattle.layout.specs.Layout as layout
 use Rattle.layout.specs.Layout.{valueOf, isStray, destinationBits, operandBits}
-use Rattle.layout.specs.Opcodes.{isIn, addedOpcodes, rowOf, shapeOfRow, shapeOf, holds, sourceShape}
+use Rattle.layout.specs.Opcodes.{isIn, addedOpcodes, rowOf, shapeOfRow, shapeOf, holds}
 use Rattle.layout.specs.Records.{isIndexed, directOf, registerOf, sourceOf, operandOf, destinationOf, tokenOf}
 use Rattle.layout.specs.declared.fields.Fields.{Fields}
 use Rattle.layout.specs.declared.opcodes.OperandShape.{OperandShape}
@@ -23,7 +23,6 @@ use Rattle.layout.specs.declared.opcodes.OperandShape.the-variants.{Unused, Sou
 use Rattle.layout.specs.declared.opcodes.Shape.{Shape}
 use Rattle.layout.specs.declared.record.Destination.the-variants.{Masked}
 use Rattle.layout.specs.declared.record.Operand.{Operand}
-use Rattle.layout.specs.declared.record.Operand.the-variants.{Unused as NoOperand}
 use Rattle.layout.specs.declared.record.Token.{Token}
 use Rattle.layout.proofs.SourceKinds.{direct-source}
 use Rattle.layout.proofs.Stray.{wider, value-within}
@@ -31,7 +30,7 @@ use Rattle.components.specs.Access.{lacksAccess, lacksSome, accessThrough, comp
 use Rattle.components.specs.declared.written.Written.{Written}
 use Rattle.components.proofs.AccessLaws.{none-missing}
 use Rattle.components.proofs.Among.{one-row}
-use Rattle.registers.specs.Counts.{countOf, packed}
+use Rattle.registers.specs.Counts.{countOf}
 use Rattle.registers.specs.Uses.{isReadable, isWritable}
 use Rattle.registers.proofs.Outside.{outside-edition, outside-stage}
 use Rattle.registers.proofs.Packed.{none-packed}

@@ -5,12 +5,11 @@ use mathlib.Core.Option.{Option, none, some}
 use lib.Dec.{eqb, ltb}
 use Rattle.bytecode.specs.Decode.{refusal, noRefusal}
 use Rattle.bytecode.specs.declared.answers.Refusal.{Refusal}
-use Rattle.layout.specs.declared.record.Operand.{Operand}
 use Rattle.layout.specs.declared.record.Token.{Token}
 use Rattle.paths.specs.Paths.{TokenFault}
 use Rattle.faults.specs.Rules.{opcodeTooNew, opcodeNotForStage, selectorsDiffer, matrixSwizzled}
 use Rattle.faults.specs.Profile.{countIn}
-use Rattle.faults.specs.Order.{firstFault, sourceRules, recordRules}
+use Rattle.faults.specs.Order.{firstFault, recordRules}
 use Rattle.faults.specs.declared.profile.Profile.{Profile}
 
 abbrev pub numberOf : Option TokenFault → ℕ

@@ -1,12 +1,11 @@
 -- The next state of the code stands for the next state of the check over paths.
 -- Assumes nothing.
 use Prim.Native.Nat.{ℕ, zero, suc, _+_, _-_, _<_}
-use mathlib.Core.Bool.{Bool, true, false, cond, _||_, or-false, true≢false}
+use mathlib.Core.Bool.{true, false, _||_, or-false, true≢false}
 use mathlib.Core.List.{List}
 use mathlib.Core.Path.{_≡_, refl, _∙_, sym, ap, ap₂, subst⁻¹, fun-ext}
 use native.Mathlib.Numerals.{add-one}
 use native.Mathlib.Omega.{arith}
-use lib.Dec.{eqb}
 use lib.ListN.{getD, set, length-set}
 use borrow.Author.Tests.{lt-ltb, le-ltb, leb-false}
 use Rattle.layout.specs.declared.record.Destination.{Destination}
@@ -15,7 +14,7 @@ use Rattle.paths.specs.Paths.{Flow, opener}
 use Rattle.paths.specs.Nesting.{branchesAfter}
 use Rattle.paths.specs.Unwritten.{ComponentSet, adds}
 use Rattle.components.specs.Reads.{writesInto, temporaries}
-use Rattle.components.specs.Written.{componentSet, joinOf, markOf}
+use Rattle.components.specs.Written.{componentSet, joinOf}
 use Rattle.paths.specs.Check as check
 use Rattle.paths.specs.Check.{currentAt, keptAt, keptAfter}
 use Rattle.components.specs.declared.written.Written.{Written}

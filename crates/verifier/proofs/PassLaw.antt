@@ -20,7 +20,6 @@ use Rattle.verifier.specs.State.{flowOfCode, isMisplaced, metTop, parted
 use Rattle.verifier.specs.Step.{stepped, followOf, takeOf, stepOf}
 use Rattle.verifier.specs.declared.state.Flow.the-variants.{Plain}
 use Rattle.verifier.specs.declared.state.Top.{Top}
-use Rattle.verifier.specs.declared.step.Stepped.{Stepped}
 
 module _ (top : Top) (token : ℕ) where
   -- a token that no branch has to do with
