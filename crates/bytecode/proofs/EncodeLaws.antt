@@ -1,7 +1,7 @@
--- What a packed field or token tells, and what encode's answer is, from its fault.
+-- Which values of a source are to be tested, what a packed field or token tells, and what encode's answer is, from its fault.
 -- Assumes nothing.
 use Prim.Native.Nat.{ℕ, _<_, _≤_}
-use mathlib.Core.Bool.{Bool, true, false, cond}
+use mathlib.Core.Bool.{Bool, true, false, cond, _&&_, and-true}
 use mathlib.Core.List.{List, _++_}
 use mathlib.Core.Path.{_≡_, refl}
 use native.Mathlib.Omega.{arith}
@@ -9,12 +9,17 @@ use lib.Dec.{eqb, ltb}
 use lib.ListN.{length, drop}
 use borrow.Author.Tests.{lt-ltb, le-ltb, ltb-false}
 use Rattle.bytecode.specs.Decode.{refusal, noRefusal}
-use Rattle.bytecode.specs.Encode.{packed, packedToken, isEncodable, tokenBytes, encodeFault, encodeOf, afterEncode, Encodes}
+use Rattle.bytecode.specs.Encode.{sourceFits, packed, packedToken, isEncodable, tokenBytes, encodeFault, encodeOf, afterEncode, Encodes}
 use Rattle.layout.specs.declared.fields.Fields.{Fields}
 use Rattle.bytecode.specs.declared.pack.Packed.the-variants.{Field, Unfit}
 use Rattle.bytecode.specs.declared.pack.PackedToken.the-variants.{Fields as AllFields, Unfit as NoFields}
 use Rattle.layout.specs.declared.record.Token.{Token}
 use Rattle.bytecode.specs.declared.answers.Encoded.the-variants.{Written, Refused}
+
+-- a number of 16 bits and two of 8 fit their places
+pub source-fits : (n o s : ℕ) → n < 65536 → o < 256 → s < 256 → (t i q : ℕ) → sourceFits n o s t i q ≡ (ltb t 16 && ltb i 16 && ltb q 4)
+unfolding sourceFits
+source-fits n o s hn ho hs t i q = simp (lt-ltb n 65536 hn, lt-ltb o 256 ho, lt-ltb s 256 hs, and-true)
 
 pub unfit : (b : Bool) (f : ℕ) → packed b f ≡ Unfit → b ≡ false
 unfit true f e = let z : _≡_ {A = ℕ} 0 1 = cc in absurd (omega arith)

@@ -1,6 +1,5 @@
 // Encode: the 24 bytes of a record into a lent buffer, or the first fault with every byte as it was.
-ghost use mathlib.Core.Path.{_≡_};
-ghost use Rattle.bytecode.specs.Encode.{Encodes, isEncodable};
+ghost use Rattle.bytecode.specs.Encode.{Encodes};
 use crate::answers::Encoded;
 use crate::decoding;
 use crate::fields;
@@ -19,14 +18,4 @@ pub fn encode(token: Token, out: &mut [u8]) -> Encoded
     }
     fields::write_fields(f, out);
     Encoded::Written
-}
-
-// Whether encode, given room, writes a record.
-pub fn encodable(token: Token) -> bool
-    ensures { λ r. ⌜ r ≡ isEncodable token ⌝ }
-{
-    match pack::pack_token(token) {
-        PackedToken::Fields(_) => true,
-        PackedToken::Unfit => false,
-    }
 }

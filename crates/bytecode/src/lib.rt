@@ -4,11 +4,12 @@ mod biases;
 mod decoding;
 mod encoding;
 mod fields;
+mod fits;
 mod pack;
 
 pub use biases::bias;
 pub use decoding::decode;
 pub use decoding::examine;
-pub use encoding::encodable;
 pub use encoding::encode;
+pub use fits::encodable;
 pub use pack::unsigned_byte;
