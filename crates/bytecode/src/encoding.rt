@@ -3,19 +3,20 @@ ghost use Rattle.bytecode.specs.Encode.{Encodes};
 use crate::answers::Encoded;
 use crate::decoding;
 use crate::fields;
+use crate::fits;
 use crate::pack;
-use crate::pack::PackedToken;
 use layout::record::Token;
 
 pub fn encode(token: Token, out: &mut [u8]) -> Encoded
     ensures { λ r. ⌜ Encodes token (now (out .entry)) (now (out .exit)) r ⌝ }
 {
-    let PackedToken::Fields(f) = pack::pack_token(token) else {
+    if !fits::encodable(token) {
         return Encoded::Refused(decoding::refused(25, 0));
-    };
+    }
     if out.len() < 24 {
         return Encoded::Refused(decoding::refused(23, 0));
     }
+    let f = pack::pack_token(token);
     fields::write_fields(f, out);
     Encoded::Written
 }

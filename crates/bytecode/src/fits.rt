@@ -1,4 +1,4 @@
-// Which records are encodable. Only what is narrower than its type is tested: numbers of 16 bits, of 8 bits and a bias fit their places.
+// Which records are encodable. A value is tested where its place is narrower than its type; a number, an offset, a swizzle and a bias always fit.
 ghost use mathlib.Core.Path.{_≡_};
 ghost use mathlib.Core.Bool.{_&&_};
 ghost use lib.Dec.{ltb};

@@ -1,7 +1,7 @@
 -- `is_source` meets its contract.
 -- Assumes nothing.
 use borrow.Author.Needs.{needs}
-use Rattle.bytecode.proofs.EncodeLaws.{source-fits}
+use Rattle.bytecode.proofs.EncodeLaws.{source-tests}
 use Rattle.bytecode.proofs.fits.is_source.Statement.{statement}
 use Rattle.bytecode.proofs.fits.is_source.Tie as tie
 
@@ -29,12 +29,12 @@ returns c = search needs
 returns-2 : tie.Need-returns-2
 returns-2 c =
     let s = c .before .before .operand .given .0 .0 in
-    simp (c .before .before .operand .given .1, c .source-fits .ensures, source-fits (s .number) (s .offset) (s .swizzle) (search needs) (search needs) (search needs))
+    simp (c .before .before .operand .given .1, c .source-fits .ensures, source-tests (s .number) (s .offset) (s .swizzle) (search needs) (search needs) (search needs))
 
 returns-3 : tie.Need-returns-3
 returns-3 c =
     let s = c .before .before .operand2 .given .0 .0 in
-    simp (c .before .before .operand2 .given .1, c .source-fits2 .ensures, source-fits (s .number) (s .offset) (s .swizzle) (search needs) (search needs) (search needs))
+    simp (c .before .before .operand2 .given .1, c .source-fits2 .ensures, source-tests (s .number) (s .offset) (s .swizzle) (search needs) (search needs) (search needs))
 
 returns-4 : tie.Need-returns-4
 returns-4 c = search needs
