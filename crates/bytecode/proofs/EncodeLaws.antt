@@ -1,7 +1,7 @@
--- What a packed field or token tells, and what encode's answer is, from its fault.
+-- What is to be tested of a source, and what encode's answer is, from its fault.
 -- Assumes nothing.
 use Prim.Native.Nat.{ℕ, _<_, _≤_}
-use mathlib.Core.Bool.{Bool, true, false, cond}
+use mathlib.Core.Bool.{Bool, true, false, cond, _&&_, and-true}
 use mathlib.Core.List.{List, _++_}
 use mathlib.Core.Path.{_≡_, refl}
 use native.Mathlib.Omega.{arith}
@@ -9,28 +9,14 @@ use lib.Dec.{eqb, ltb}
 use lib.ListN.{length, drop}
 use borrow.Author.Tests.{lt-ltb, le-ltb, ltb-false}
 use Rattle.bytecode.specs.Decode.{refusal, noRefusal}
-use Rattle.bytecode.specs.Encode.{packed, packedToken, isEncodable, tokenBytes, encodeFault, encodeOf, afterEncode, Encodes}
-use Rattle.layout.specs.declared.fields.Fields.{Fields}
-use Rattle.bytecode.specs.declared.pack.Packed.the-variants.{Field, Unfit}
-use Rattle.bytecode.specs.declared.pack.PackedToken.the-variants.{Fields as AllFields, Unfit as NoFields}
+use Rattle.bytecode.specs.Encode.{sourceFits, isEncodable, tokenBytes, encodeFault, encodeOf, afterEncode, Encodes}
 use Rattle.layout.specs.declared.record.Token.{Token}
 use Rattle.bytecode.specs.declared.answers.Encoded.the-variants.{Written, Refused}
 
-pub unfit : (b : Bool) (f : ℕ) → packed b f ≡ Unfit → b ≡ false
-unfit true f e = let z : _≡_ {A = ℕ} 0 1 = cc in absurd (omega arith)
-unfit false f e = refl
-
-pub field : (b : Bool) (f g : ℕ) → packed b f ≡ Field g → (b ≡ true) × (f ≡ g)
-field true f g e = (refl, cc)
-field false f g e = let z : _≡_ {A = ℕ} 0 1 = cc in absurd (omega arith)
-
-pub unfit-token : (b : Bool) (f : Fields) → packedToken b f ≡ NoFields → b ≡ false
-unfit-token true f e = let z : _≡_ {A = ℕ} 0 1 = cc in absurd (omega arith)
-unfit-token false f e = refl
-
-pub token-fields : (b : Bool) (f g : Fields) → packedToken b f ≡ AllFields g → (b ≡ true) × (f ≡ g)
-token-fields true f g e = (refl, cc)
-token-fields false f g e = let z : _≡_ {A = ℕ} 0 1 = cc in absurd (omega arith)
+-- a number of 16 bits and two of 8 fit their places
+pub source-tests : (n o s : ℕ) → n < 65536 → o < 256 → s < 256 → (t i q : ℕ) → sourceFits n o s t i q ≡ (ltb t 16 && ltb i 16 && ltb q 4)
+unfolding sourceFits
+source-tests n o s hn ho hs t i q = simp (lt-ltb n 65536 hn, lt-ltb o 256 ho, lt-ltb s 256 hs, and-true)
 
 module _ (t : Token) (buffer : List ℕ) where
   pub not-encodable : isEncodable t ≡ false → Encodes t buffer buffer (Refused (refusal 25 0 0))

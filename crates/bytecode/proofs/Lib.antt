@@ -1,6 +1,7 @@
 pub mod DecodeLaws
 pub mod EncodeLaws
 pub mod Floats
+pub mod PackLaws
 pub mod RegisterAgain
 pub mod RoundTrip
 pub mod SamplerAgain

@@ -57,6 +57,10 @@ module _ (r : MaskedRegister) (e : registerFits r ≡ true) where
   pub register-clean : isStray (definedBits destinationRows) (registerField r) ≡ false
   register-clean = rw (packed r) (none-stray destinationRows (valuesOf r) rising fit)
 
+  pub register-placed : (r .mask < 16) × (r .kind < 16)
+  unfolding valuesOf
+  register-placed = (fit .1 .0, fit .1 .1 .0)
+
   pub register-small : registerField r < 2 ^ 32
   unfolding registerField valuesOf
   register-small = omega (arith, fit .0, fit .1 .0, fit .1 .1 .0)

@@ -1,13 +1,13 @@
 -- The round trip, both ways: bytes that decode does not refuse encode to themselves, and records that encode does not refuse decode to
 -- themselves.
 -- Assumes nothing.
-use Prim.Native.Nat.{ℕ, _^_, _<_}
-use mathlib.Core.Bool.{Bool, true, false, _&&_}
+use Prim.Native.Nat.{ℕ}
+use mathlib.Core.Bool.{Bool, true, false}
 use mathlib.Core.List.{List, _++_}
 use mathlib.Core.Path.{_≡_, refl, _∙_, sym, ap}
 use native.Mathlib.Omega.{arith}
 use lib.Bits.{and-zero-r}
-use lib.Dec.{T, lit<}
+use lib.Dec.{T}
 use lib.ListN.{take, drop}
 use lib.Seq.{take-at}
 use lib.Pow.{areBytes}
@@ -21,19 +21,15 @@ use Rattle.bytecode.specs.RoundTrip.{RoundTrip}
 use Rattle.layout.specs.declared.opcodes.OperandShape.{OperandShape}
 use Rattle.layout.specs.declared.opcodes.OperandShape.the-variants.{Unused as NoField, Source as SourceField, Sampler as SamplerField}
 use Rattle.layout.specs.declared.fields.Fields.{Fields}
-use Rattle.layout.specs.declared.record.Destination.{Destination}
-use Rattle.layout.specs.declared.record.Destination.the-variants.{Unused as NoDestination, Masked}
-use Rattle.layout.specs.declared.record.Operand.{Operand}
-use Rattle.layout.specs.declared.record.Operand.the-variants.{Unused as NoOperand, Direct, Indexed, Sampler as Sampled}
 use Rattle.layout.specs.declared.record.Token.{Token}
 use Rattle.bytecode.specs.declared.answers.Decoded.the-variants.{Token as Accepted}
 use Rattle.bytecode.proofs.DecodeLaws.{Clean, clean, clean-none, accepted, no-faults}
+use Rattle.bytecode.proofs.PackLaws.{listed, destination-packed, source1-packed, source2-packed}
 use Rattle.bytecode.proofs.EncodeLaws.{written, was-written}
-use Rattle.bytecode.proofs.RegisterAgain.{register-fits, register-again, register-of, register-clean, register-small}
-use Rattle.bytecode.proofs.SourceAgain.{source-fits, source-again, direct-of, indexed-of, source-clean, source-small}
-use Rattle.bytecode.proofs.SamplerAgain.{sampler-fits, sampler-again, sampler-of, sampler-clean, sampler-small}
+use Rattle.bytecode.proofs.RegisterAgain.{register-fits, register-again}
+use Rattle.bytecode.proofs.SourceAgain.{source-fits, source-again}
+use Rattle.bytecode.proofs.SamplerAgain.{sampler-fits, sampler-again}
 use Rattle.layout.proofs.Stray.{not-stray}
-use Rattle.laws.proofs.Every.{left, right}
 use Rattle.bytecode.proofs.Words.{bytes-again, fields-again}
 use Rattle.layout.proofs.Listed.{listed-below}
 
@@ -81,31 +77,6 @@ from-bytes s t h e =
 
 -- ---- from a record
 
--- a packed operand has no stray bit, makes the operand again and has no more bits than its field
-destination-of : (used : Bool) (r : Destination) → destinationFits used r ≡ true
-    → (isStray (destinationBits used) (destinationField r) ≡ false) × (destinationOf used (destinationField r) ≡ r) × (destinationField r < 2 ^ 32)
-destination-of true NoDestination e = absurd (mathlib.Core.Bool.false≢true e)
-destination-of true (Masked r) e = (register-clean r e, ap Masked (register-of r e), register-small r e)
-destination-of false NoDestination e = (refl, refl, lit< tt)
-destination-of false (Masked r) e = absurd (mathlib.Core.Bool.false≢true e)
-
-operand-of : (shape : OperandShape) (o : Operand) → operandFits shape o ≡ true
-    → (isStray (operandBits shape) (operandField o) ≡ false) × (operandOf shape (operandField o) ≡ o) × (operandField o < 2 ^ 64)
-operand-of NoField NoOperand e = (refl, refl, lit< tt)
-operand-of NoField (Direct s) e = absurd (mathlib.Core.Bool.false≢true e)
-operand-of NoField (Indexed s) e = absurd (mathlib.Core.Bool.false≢true e)
-operand-of NoField (Sampled s) e = absurd (mathlib.Core.Bool.false≢true e)
-operand-of SourceField NoOperand e = absurd (mathlib.Core.Bool.false≢true e)
-operand-of SourceField (Direct s) e =
-    (source-clean (s .number) (s .offset) (s .swizzle) (s .kind) (s .«index_kind») (s .component) 0 e (lit< tt), direct-of s e, source-small (s .number) (s .offset) (s .swizzle) (s .kind) (s .«index_kind») (s .component) 0 e (lit< tt))
-operand-of SourceField (Indexed s) e =
-    (source-clean (s .number) (s .offset) (s .swizzle) (s .kind) (s .«index_kind») (s .component) 1 e (lit< tt), indexed-of s e, source-small (s .number) (s .offset) (s .swizzle) (s .kind) (s .«index_kind») (s .component) 1 e (lit< tt))
-operand-of SourceField (Sampled s) e = absurd (mathlib.Core.Bool.false≢true e)
-operand-of SamplerField NoOperand e = absurd (mathlib.Core.Bool.false≢true e)
-operand-of SamplerField (Direct s) e = absurd (mathlib.Core.Bool.false≢true e)
-operand-of SamplerField (Indexed s) e = absurd (mathlib.Core.Bool.false≢true e)
-operand-of SamplerField (Sampled s) e = (sampler-clean s e, ap Sampled (sampler-of s e), sampler-small s e)
-
 -- the three operands again make the record again
 same : (t : Token)
     → destinationOf (shapeOf (t .opcode) .destination) (destinationField (t .destination)) ≡ t .destination
@@ -116,19 +87,16 @@ unfolding tokenOf
 same t d a b = rw (d, a, b)
 
 from-record : (t : Token) → isEncodable t ≡ true → decodeOf (tokenBytes t) ≡ Accepted t
-unfolding isEncodable
 from-record t e =
     let h = shapeOf (t .opcode) in
-    let e3 = left (h .listed && destinationFits (h .destination) (t .destination) && operandFits (h .source1) (t .source1)) _ e in
-    let e2 = left (h .listed && destinationFits (h .destination) (t .destination)) _ e3 in
-    let listed = left (h .listed) _ e2 in
-    let d = destination-of (h .destination) (t .destination) (right (h .listed) _ e2) in
-    let a = operand-of (h .source1) (t .source1) (right (h .listed && destinationFits (h .destination) (t .destination)) _ e3) in
-    let b = operand-of (h .source2) (t .source2) (right (h .listed && destinationFits (h .destination) (t .destination) && operandFits (h .source1) (t .source1)) _ e) in
-    let f = fields-again (tokenFields t) (omega (arith, listed-below (t .opcode) listed)) (d .2) (a .2) (b .2) in
-    let c : Clean h (tokenFields t) = record { listed = listed; destination = d .0; source1 = a .0; source2 = b .0 } in
+    let listed = listed t e in
+    let d = destination-packed t e in
+    let a = source1-packed t e in
+    let b = source2-packed t e in
+    let f = fields-again (tokenFields t) (omega (arith, listed-below (t .opcode) listed)) (d .small) (a .small) (b .small) in
+    let c : Clean h (tokenFields t) = record { listed = listed; destination = d .clean; source1 = a .clean; source2 = b .clean } in
     let n : tokenFault (shapeOf (fieldsOf (tokenBytes t) .opcode)) (fieldsOf (tokenBytes t)) ≡ noRefusal = ap (λ g. tokenFault (shapeOf (g .opcode)) g) f ∙ clean-none h (tokenFields t) c in
-    sym (no-faults (tokenBytes t) refl (ap (λ r. r .number) n) .answer) ∙ ap (λ g. Accepted (tokenOf (shapeOf (g .opcode)) g)) f ∙ ap Accepted (same t (d .1) (a .1) (b .1))
+    sym (no-faults (tokenBytes t) refl (ap (λ r. r .number) n) .answer) ∙ ap (λ g. Accepted (tokenOf (shapeOf (g .opcode)) g)) f ∙ ap Accepted (same t (d .again) (a .again) (b .again))
 
 pub round-trip : RoundTrip
 round-trip =

@@ -12,7 +12,7 @@ use borrow.Author.Tests.{lt-ltb, le-ltb, ltb-true}
 use Rattle.layout.specs.Layout as layout
 use Rattle.layout.specs.Layout.{valueOf, definedBits, samplerRows, isStray}
 use Rattle.layout.specs.Records.{signed, samplerOf}
-use Rattle.bytecode.specs.Encode.{unsigned, isSignedByte, samplerFits, samplerField}
+use Rattle.bytecode.specs.Encode.{unsigned, isSignedByte, SamplerHigh, samplerFits, samplerField}
 use Rattle.layout.specs.declared.record.Sampler.{Sampler}
 use Rattle.laws.proofs.Every.{below, both-left, both-right, is-true, left, right}
 use Rattle.layout.proofs.Rows.{Rising, Fit, pack, values-again}
@@ -123,6 +123,12 @@ module _ (s : Sampler) (e : samplerFits s ≡ true) where
   pub sampler-clean : isStray (definedBits samplerRows) (samplerField s) ≡ false
   unfolding valuesOf
   sampler-clean = rw (packed s) (none-stray samplerRows (valuesOf s) rising fit)
+
+  pub sampler-placed : (s .kind < 16) × SamplerHigh (s .dimension) (s .special) (s .wrap) (s .mipmap) (s .filter)
+  unfolding valuesOf
+  sampler-placed =
+      let high = fit .1 .1 .1 in
+      (fit .1 .1 .0, record { dimension = high .0; special = high .1 .0; wrap = high .1 .1 .0; mipmap = high .1 .1 .1 .0; filter = high .1 .1 .1 .1 .0 })
 
   pub sampler-small : samplerField s < 2 ^ 64
   unfolding samplerField valuesOf

@@ -11,7 +11,7 @@ use borrow.Author.Tests.{lt-ltb, ltb-true, eq-eqb, ne-eqb, eqb-true, eqb-false}
 use Rattle.layout.specs.Layout as layout
 use Rattle.layout.specs.Layout.{valueOf, definedBits, sourceRows, isStray}
 use Rattle.layout.specs.Records.{directOf, indexedOf, sourceOf}
-use Rattle.bytecode.specs.Encode.{sourceFits, sourceField, operandFits, operandField}
+use Rattle.bytecode.specs.Encode.{SourceHigh, sourceFits, sourceField, operandFits, operandField}
 use Rattle.layout.specs.declared.opcodes.OperandShape.the-variants.{Source as SourceField}
 use Rattle.layout.specs.declared.record.DirectSource.{DirectSource}
 use Rattle.layout.specs.declared.record.IndexedSource.{IndexedSource}
@@ -90,6 +90,9 @@ module _ (n o s t i q d : ℕ) (e : sourceFits n o s t i q ≡ true) (hd : d < 2
 
   pub source-clean : isStray (definedBits sourceRows) (sourceField n o s t i q d) ≡ false
   source-clean = rw (packed n o s t i q d) (none-stray sourceRows (n ∷ o ∷ s ∷ t ∷ i ∷ q ∷ d ∷ []) rising fit)
+
+  pub source-placed : SourceHigh t i q d
+  source-placed = record { kind = fit .1 .1 .1 .0; index-kind = fit .1 .1 .1 .1 .0; component = fit .1 .1 .1 .1 .1 .0; indirect = hd }
 
   pub source-small : sourceField n o s t i q d < 2 ^ 64
   unfolding sourceField

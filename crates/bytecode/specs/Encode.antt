@@ -14,10 +14,6 @@ use Rattle.bytecode.specs.Decode.{refusal, noRefusal}
 use Rattle.layout.specs.declared.opcodes.OperandShape.{OperandShape}
 use Rattle.layout.specs.declared.opcodes.OperandShape.the-variants.{Unused as NoField, Source as SourceField, Sampler as SamplerField}
 use Rattle.layout.specs.declared.fields.Fields.{Fields}
-use Rattle.bytecode.specs.declared.pack.Packed.{Packed}
-use Rattle.bytecode.specs.declared.pack.Packed.the-variants.{Field, Unfit}
-use Rattle.bytecode.specs.declared.pack.PackedToken.{PackedToken}
-use Rattle.bytecode.specs.declared.pack.PackedToken.the-variants.{Fields as AllFields, Unfit as NoFields}
 use Rattle.layout.specs.declared.record.MaskedRegister.{MaskedRegister}
 use Rattle.layout.specs.declared.record.Destination.{Destination}
 use Rattle.layout.specs.declared.record.Destination.the-variants.{Unused as NoDestination, Masked}
@@ -28,10 +24,6 @@ use Rattle.layout.specs.declared.record.Token.{Token}
 use Rattle.bytecode.specs.declared.answers.Refusal.{Refusal}
 use Rattle.bytecode.specs.declared.answers.Encoded.{Encoded}
 use Rattle.bytecode.specs.declared.answers.Encoded.the-variants.{Written, Refused}
-
-abbrev pub packed : Bool → ℕ → Packed
-packed true f = Field f
-packed false f = Unfit
 
 -- ---- a destination
 
@@ -45,6 +37,11 @@ registerField r = placed layout.number (r .number) + placed layout.mask (r .mask
 abbrev pub destinationFits : Bool → Destination → Bool
 destinationFits used NoDestination = not used
 destinationFits used (Masked r) = used && registerFits r
+
+-- the values whose places are narrower than their types fit them
+abbrev pub DestinationPlaced : Destination → Type 0
+DestinationPlaced NoDestination = Unit {0}
+DestinationPlaced (Masked r) = (r .mask < 16) × (r .kind < 16)
 
 abbrev pub destinationField : Destination → ℕ
 destinationField NoDestination = 0
@@ -132,6 +129,13 @@ operandFits SamplerField (Direct s) = false
 operandFits SamplerField (Indexed s) = false
 operandFits SamplerField (Sampled s) = samplerFits s
 
+-- the same of an operand
+abbrev pub OperandPlaced : Operand → Type 0
+OperandPlaced NoOperand = Unit {0}
+OperandPlaced (Direct s) = SourceHigh (s .kind) (s .«index_kind») (s .component) 0
+OperandPlaced (Indexed s) = SourceHigh (s .kind) (s .«index_kind») (s .component) 1
+OperandPlaced (Sampled s) = (s .kind < 16) × SamplerHigh (s .dimension) (s .special) (s .wrap) (s .mipmap) (s .filter)
+
 abbrev pub operandField : Operand → ℕ
 operandField NoOperand = 0
 operandField (Direct s) =
@@ -162,10 +166,6 @@ tokenFields t =
 -- the 24 bytes of a record
 abbrev pub tokenBytes : Token → List ℕ
 tokenBytes t = bytesOf (tokenFields t)
-
-abbrev pub packedToken : Bool → Fields → PackedToken
-packedToken true f = AllFields f
-packedToken false f = NoFields
 
 -- ---- encode
 

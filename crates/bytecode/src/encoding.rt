@@ -1,32 +1,22 @@
 // Encode: the 24 bytes of a record into a lent buffer, or the first fault with every byte as it was.
-ghost use mathlib.Core.Path.{_≡_};
-ghost use Rattle.bytecode.specs.Encode.{Encodes, isEncodable};
+ghost use Rattle.bytecode.specs.Encode.{Encodes};
 use crate::answers::Encoded;
 use crate::decoding;
 use crate::fields;
+use crate::fits;
 use crate::pack;
-use crate::pack::PackedToken;
 use layout::record::Token;
 
 pub fn encode(token: Token, out: &mut [u8]) -> Encoded
     ensures { λ r. ⌜ Encodes token (now (out .entry)) (now (out .exit)) r ⌝ }
 {
-    let PackedToken::Fields(f) = pack::pack_token(token) else {
+    if !fits::encodable(token) {
         return Encoded::Refused(decoding::refused(25, 0));
-    };
+    }
     if out.len() < 24 {
         return Encoded::Refused(decoding::refused(23, 0));
     }
+    let f = pack::pack_token(token);
     fields::write_fields(f, out);
     Encoded::Written
-}
-
-// Whether encode, given room, writes a record.
-pub fn encodable(token: Token) -> bool
-    ensures { λ r. ⌜ r ≡ isEncodable token ⌝ }
-{
-    match pack::pack_token(token) {
-        PackedToken::Fields(_) => true,
-        PackedToken::Unfit => false,
-    }
 }

@@ -4,13 +4,14 @@ mod biases;
 mod decoding;
 mod encoding;
 mod fields;
+mod fits;
 mod pack;
 
 pub use biases::bias;
 pub use decoding::decode;
 pub use decoding::fault_of;
 pub use decoding::is_clean;
-pub use encoding::encodable;
 pub use encoding::encode;
 pub use fields::fields_of;
+pub use fits::encodable;
 pub use pack::unsigned_byte;

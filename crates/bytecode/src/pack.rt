@@ -1,143 +1,63 @@
-// A token's fields from its record: each value is placed at its bits, unless it is wider than its place.
+// A token's fields from its record: each value is placed at its bits.
+ghost use mathlib.Core.Bool.{true};
 ghost use mathlib.Core.Path.{_≡_};
 ghost use Prim.Native.Nat.{_+_, _<_, _≤_, _^_};
 ghost use lib.Dec.{T};
 ghost use Rattle.layout.specs.Layout.{placedAt};
-ghost use Rattle.bytecode.specs.Encode.{packed, unsigned, isSignedByte, registerFits, registerField, destinationFits, destinationField, sourceLow, SourceHigh, sourceHigh, sourceFits, sourceField, samplerLow, SamplerHigh, samplerHigh, samplerFits, samplerField, operandFits, operandField, isEncodable, tokenFields, packedToken};
+ghost use Rattle.bytecode.specs.Encode.{unsigned, isSignedByte, registerField, DestinationPlaced, destinationField, sourceLow, SourceHigh, sourceHigh, sourceField, samplerLow, SamplerHigh, samplerHigh, samplerField, OperandPlaced, operandField, isEncodable, tokenFields};
 use layout::bits;
 use layout::bits::Bits;
 use layout::fields::Fields;
-use layout::opcodes;
-use layout::opcodes::OperandShape;
-use layout::opcodes::Shape;
 use layout::record::Destination;
 use layout::record::MaskedRegister;
 use layout::record::Operand;
 use layout::record::Sampler;
 use layout::record::Token;
 
-// A field, or none where a value is too wide or an operand is not of the opcode's shape.
-pub(crate) enum Packed {
-    Field(u64),
-    Unfit,
-}
-
-// The fields of a token, or none where the record is not encodable.
-pub(crate) enum PackedToken {
-    Fields(Fields),
-    Unfit,
-}
-
-pub(crate) fn pack_token(token: Token) -> PackedToken
-    ensures { λ r. ⌜ r ≡ packedToken (isEncodable token) (tokenFields token) ⌝ }
-{
-    let shape = opcodes::shape_of(token.opcode);
-    if !shape.listed {
-        return PackedToken::Unfit;
-    }
-    let Packed::Field(destination) = destination_of(shape, token) else {
-        return PackedToken::Unfit;
-    };
-    let Packed::Field(source1) = source1_of(shape, token) else {
-        return PackedToken::Unfit;
-    };
-    let Packed::Field(source2) = source2_of(shape, token) else {
-        return PackedToken::Unfit;
-    };
-    PackedToken::Fields(Fields {
-        opcode: token.opcode,
-        destination,
-        source1,
-        source2,
-    })
-}
-
-fn destination_of(shape: Shape, token: Token) -> Packed
-    ensures { λ r. ⌜ r ≡ packed (destinationFits (shape .destination) (token .destination)) (destinationField (token .destination)) ⌝ }
+// The fields of an encodable record.
+pub(crate) fn pack_token(token: Token) -> Fields
+    requires { ⌜ isEncodable token ≡ true ⌝ }
+    ensures { λ r. ⌜ r ≡ tokenFields token ⌝ }
 {
     let destination = token.destination;
-    pack_destination(shape.destination, destination)
+    let source1 = token.source1;
+    let source2 = token.source2;
+    Fields {
+        opcode: token.opcode,
+        destination: pack_destination(destination),
+        source1: pack_operand(source1),
+        source2: pack_operand(source2),
+    }
 }
 
-fn source1_of(shape: Shape, token: Token) -> Packed
-    ensures { λ r. ⌜ r ≡ packed (operandFits (shape .source1) (token .source1)) (operandField (token .source1)) ⌝ }
-{
-    let kind = shape.source1;
-    let operand = token.source1;
-    pack_operand(kind, operand)
-}
-
-fn source2_of(shape: Shape, token: Token) -> Packed
-    ensures { λ r. ⌜ r ≡ packed (operandFits (shape .source2) (token .source2)) (operandField (token .source2)) ⌝ }
-{
-    let kind = shape.source2;
-    let operand = token.source2;
-    pack_operand(kind, operand)
-}
-
-fn pack_destination(used: bool, destination: Destination) -> Packed
-    ensures { λ r. ⌜ r ≡ packed (destinationFits used destination) (destinationField destination) ⌝ }
+fn pack_destination(destination: Destination) -> u64
+    requires { ⌜ DestinationPlaced destination ⌝ }
+    ensures { λ r. ⌜ r ≡ destinationField destination ⌝ }
 {
     match destination {
-        Destination::Unused => {
-            if used {
-                Packed::Unfit
-            } else {
-                Packed::Field(0)
-            }
-        }
-        Destination::Masked(register) => {
-            if used {
-                pack_register(register)
-            } else {
-                Packed::Unfit
-            }
-        }
+        Destination::Unused => 0,
+        Destination::Masked(register) => pack_register(register),
     }
 }
 
-fn pack_register(register: MaskedRegister) -> Packed
-    ensures { λ r. ⌜ r ≡ packed (registerFits register) (registerField register) ⌝ }
+fn pack_register(register: MaskedRegister) -> u64
+    requires { ⌜ register .mask < 16 ⌝ }
+    requires { ⌜ register .kind < 16 ⌝ }
+    ensures { λ r. ⌜ r ≡ registerField register ⌝ }
 {
-    if 16 <= register.mask {
-        return Packed::Unfit;
-    }
-    if 16 <= register.kind {
-        return Packed::Unfit;
-    }
     let number = placed(register.number as u64, bits::NUMBER);
     let mask = placed(register.mask as u64, bits::MASK);
     let kind = placed(register.kind as u64, bits::MASKED_KIND);
-    Packed::Field(number + mask + kind)
+    number + mask + kind
 }
 
-fn pack_operand(shape: OperandShape, operand: Operand) -> Packed
-    ensures { λ r. ⌜ r ≡ packed (operandFits shape operand) (operandField operand) ⌝ }
-{
-    match shape {
-        OperandShape::Unused => pack_nothing(operand),
-        OperandShape::Source => pack_source(operand),
-        OperandShape::Sampler => pack_sampler(operand),
-    }
-}
-
-fn pack_nothing(operand: Operand) -> Packed
-    ensures { λ r. ⌜ r ≡ packed (operandFits OperandShape.Unused operand) (operandField operand) ⌝ }
+fn pack_operand(operand: Operand) -> u64
+    requires { ⌜ OperandPlaced operand ⌝ }
+    ensures { λ r. ⌜ r ≡ operandField operand ⌝ }
 {
     match operand {
-        Operand::Unused => Packed::Field(0),
-        Operand::Direct(_) => Packed::Unfit,
-        Operand::Indexed(_) => Packed::Unfit,
-        Operand::Sampler(_) => Packed::Unfit,
-    }
-}
-
-fn pack_source(operand: Operand) -> Packed
-    ensures { λ r. ⌜ r ≡ packed (operandFits OperandShape.Source operand) (operandField operand) ⌝ }
-{
-    match operand {
-        Operand::Unused => Packed::Unfit,
-        Operand::Direct(s) => pack_values(
+        Operand::Unused => 0,
+        Operand::Direct(s) => pack_source(
             s.number,
             s.offset,
             s.swizzle,
@@ -146,7 +66,7 @@ fn pack_source(operand: Operand) -> Packed
             s.component,
             0,
         ),
-        Operand::Indexed(s) => pack_values(
+        Operand::Indexed(s) => pack_source(
             s.number,
             s.offset,
             s.swizzle,
@@ -155,23 +75,12 @@ fn pack_source(operand: Operand) -> Packed
             s.component,
             1,
         ),
-        Operand::Sampler(_) => Packed::Unfit,
-    }
-}
-
-fn pack_sampler(operand: Operand) -> Packed
-    ensures { λ r. ⌜ r ≡ packed (operandFits OperandShape.Sampler operand) (operandField operand) ⌝ }
-{
-    match operand {
-        Operand::Unused => Packed::Unfit,
-        Operand::Direct(_) => Packed::Unfit,
-        Operand::Indexed(_) => Packed::Unfit,
-        Operand::Sampler(s) => pack_settings(s),
+        Operand::Sampler(s) => pack_sampler(s),
     }
 }
 
 // The values of a source; indirect is D.
-fn pack_values(
+fn pack_source(
     number: u16,
     offset: u8,
     swizzle: u8,
@@ -179,22 +88,13 @@ fn pack_values(
     index_kind: u8,
     component: u8,
     indirect: u64,
-) -> Packed
-    requires { ⌜ indirect < 2 ⌝ }
-    ensures { λ r. ⌜ r ≡ packed (sourceFits number offset swizzle kind «index_kind» component) (sourceField number offset swizzle kind «index_kind» component indirect) ⌝ }
+) -> u64
+    requires { ⌜ SourceHigh kind «index_kind» component indirect ⌝ }
+    ensures { λ r. ⌜ r ≡ sourceField number offset swizzle kind «index_kind» component indirect ⌝ }
 {
-    if 16 <= kind {
-        return Packed::Unfit;
-    }
-    if 16 <= index_kind {
-        return Packed::Unfit;
-    }
-    if 4 <= component {
-        return Packed::Unfit;
-    }
     let low = source_low(number, offset, swizzle);
     let high = source_high(kind, index_kind, component, indirect);
-    Packed::Field(low + high)
+    low + high
 }
 
 fn source_low(number: u16, offset: u8, swizzle: u8) -> u64
@@ -217,27 +117,11 @@ fn source_high(kind: u8, index_kind: u8, component: u8, indirect: u64) -> u64
     t + i + q + d
 }
 
-fn pack_settings(sampler: Sampler) -> Packed
-    ensures { λ r. ⌜ r ≡ packed (samplerFits sampler) (samplerField sampler) ⌝ }
+fn pack_sampler(sampler: Sampler) -> u64
+    requires { ⌜ sampler .kind < 16 ⌝ }
+    requires { ⌜ SamplerHigh (sampler .dimension) (sampler .special) (sampler .wrap) (sampler .mipmap) (sampler .filter) ⌝ }
+    ensures { λ r. ⌜ r ≡ samplerField sampler ⌝ }
 {
-    if 16 <= sampler.kind {
-        return Packed::Unfit;
-    }
-    if 16 <= sampler.dimension {
-        return Packed::Unfit;
-    }
-    if 16 <= sampler.special {
-        return Packed::Unfit;
-    }
-    if 16 <= sampler.wrap {
-        return Packed::Unfit;
-    }
-    if 16 <= sampler.mipmap {
-        return Packed::Unfit;
-    }
-    if 16 <= sampler.filter {
-        return Packed::Unfit;
-    }
     let bias = unsigned_byte(sampler.bias);
     let low = sampler_low(sampler.number, bias, sampler.kind);
     let high = sampler_high(
@@ -247,7 +131,7 @@ fn pack_settings(sampler: Sampler) -> Packed
         sampler.mipmap,
         sampler.filter,
     );
-    Packed::Field(low + high)
+    low + high
 }
 
 fn sampler_low(number: u16, bias: u8, kind: u8) -> u64

@@ -1,18 +1,18 @@
 -- The code's tables of names are the specification's, by tests that antt computes over all their rows.
 -- Assumes nothing.
 use Prim.Native.Nat.{ℕ, zero, suc, _+_, _-_, _*_, _<_, _≤_}
-use mathlib.Core.Bool.{Bool, true, false, _&&_, _||_}
+use mathlib.Core.Bool.{Bool, true, false, not, _&&_, _||_}
 use mathlib.Core.List.{List, [], _∷_, _++_}
 use mathlib.Core.Path.{_≡_, refl, subst, sym}
 use native.Mathlib.Omega.{arith}
 use lib.Dec.{T, eqb, ltb, eqb→eq, ltb→lt}
-use lib.ListN.{length, take, drop}
+use lib.ListN.{length, take, drop, getD}
 use Rattle.layout.specs.Opcodes.{isIn, isListed, firstOpcodes, addedOpcodes}
 use Rattle.laws.specs.Tests.{every}
 use Rattle.laws.proofs.Every.{both-left, both-right, below}
-use Rattle.listing.specs.Text.{ascii}
+use Rattle.listing.specs.Text.{ascii, when}
 use Rattle.listing.specs.Names.{opcodeName, registerName}
-use Rattle.listing.specs.Writers.{nameRow, nameLetters}
+use Rattle.listing.specs.Writers.{nameRow}
 use Rattle.listing.proofs.Bytes.{equal, equal→eq}
 
 pub short : (n : ℕ) (l : List ℕ) → length (take n l) ≤ n
@@ -54,12 +54,13 @@ module _ (o : ℕ) (listed : isListed o ≡ true) where
 
 -- ---- registers
 
-abbrev pub registers : List ℕ
+abbrev registers : List ℕ
 registers = ascii "vavcvtopv.fsodfcftoc"
 
--- the part of the table that the code writes
-abbrev pub written : ℕ → ℕ → List ℕ
-written stage kind = take (2 * nameRow stage kind + nameLetters kind - 2 * nameRow stage kind) (drop (2 * nameRow stage kind) registers)
+-- the letters that the code writes: one at the type's row, and a second, but for `v`
+abbrev written : ℕ → ℕ → List ℕ
+written stage kind =
+    (getD registers (2 * nameRow stage kind) 0 ∷ []) ++ when (not (eqb kind 4)) (getD registers (2 * nameRow stage kind + 1) 0 ∷ [])
 
 pub register-name : (stage kind : ℕ) → stage ≤ 1 → kind ≤ 6 → written stage kind ≡ registerName stage kind
 unfolding registerName

@@ -29,10 +29,6 @@ digitAt n unit = when (leb unit n) (digit (n / unit % 10) ∷ [])
 abbrev pub nameRow : ℕ → ℕ → ℕ
 nameRow stage kind = cond (eqb stage 1 && leb 1 kind && leb kind 3) (6 + kind) kind
 
--- every name has two letters, but for `v`
-abbrev pub nameLetters : ℕ → ℕ
-nameLetters kind = cond (eqb kind 4) 1 2
-
 -- as many bytes as an operand's text has at most, with five digits to a number
 abbrev pub operandRoom : Operand → ℕ
 operandRoom NoOperand = 0

@@ -5,7 +5,7 @@ ghost use Prim.Native.Nat.{_+_, _≤_};
 ghost use lib.ListN.{length};
 ghost use Rattle.layout.specs.Opcodes.{isListed};
 ghost use Rattle.listing.specs.Names.{opcodeName, registerName};
-ghost use Rattle.listing.specs.Writers.{Appends, nameRow, nameLetters};
+ghost use Rattle.listing.specs.Writers.{Appends, nameRow};
 use crate::text;
 
 // By opcode, three letters each, from mov, 00, to sne, 2d; dots where no opcode is listed.
@@ -24,6 +24,7 @@ pub(crate) fn put_opcode(out: &mut [u8], at: usize, opcode: u32) -> usize
     text::put_bytes(out, at, &OPCODES[from..from + 3])
 }
 
+// Letter by letter: a copy of a part of the table would be a call for one or two bytes.
 pub(crate) fn put_register_name(out: &mut [u8], at: usize, stage: u8, kind: u8) -> usize
     requires { ⌜ at + 2 ≤ length (now out) ⌝ }
     requires { ⌜ stage ≤ 1 ⌝ }
@@ -31,8 +32,9 @@ pub(crate) fn put_register_name(out: &mut [u8], at: usize, stage: u8, kind: u8) 
     ensures { λ r. ⌜ Appends (registerName stage kind) 2 at (now (out .entry)) (now (out .exit)) r ⌝ }
 {
     let from = 2 * row(stage, kind);
-    let to = from + letters(kind);
-    text::put_bytes(out, at, &REGISTERS[from..to])
+    let names = REGISTERS;
+    let p = text::put_byte(out, at, names[from]);
+    text::put_when(out, p, kind != 4, names[from + 1])
 }
 
 // Where a type's name stands in the table.
@@ -44,13 +46,4 @@ fn row(stage: u8, kind: u8) -> usize
         return 6 + kind as usize;
     }
     kind as usize
-}
-
-fn letters(kind: u8) -> usize
-    ensures { λ r. ⌜ (r ≡ nameLetters kind) × (r ≤ 2) ⌝ }
-{
-    if kind == 4 {
-        return 1;
-    }
-    2
 }

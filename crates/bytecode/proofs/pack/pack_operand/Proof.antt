@@ -1,48 +1,56 @@
 -- `pack_operand` meets its contract.
 -- Assumes nothing.
 use borrow.Author.Needs.{needs}
-use mathlib.Core.Path.{_∙_, ap, sym}
-use Rattle.bytecode.specs.Encode.{packed, operandFits, operandField}
+use mathlib.Core.Path.{_∙_, ap, subst, sym}
+use Rattle.bytecode.specs.Encode.{OperandPlaced, operandField}
 use Rattle.bytecode.proofs.pack.pack_operand.Statement.{statement}
 use Rattle.bytecode.proofs.pack.pack_operand.Tie as tie
 
 enum-told : tie.Need-enum-told
 enum-told c = search needs
 
-pack-nothing-requires : tie.Need-pack-nothing-requires
-pack-nothing-requires c κs = search needs
-
-enum-told-2 : tie.Need-enum-told-2
-enum-told-2 c = search needs
+enum-known-operand : tie.Need-enum-known-operand
+enum-known-operand c = search needs
 
 pack-source-requires : tie.Need-pack-source-requires
-pack-source-requires c κs = search needs
+pack-source-requires c κs = subst OperandPlaced (c .before .operand .given .1) (c .before .before .before .pre)
 
-enum-told-3 : tie.Need-enum-told-3
-enum-told-3 c = search needs
+enum-known-operand-2 : tie.Need-enum-known-operand-2
+enum-known-operand-2 c = search needs
+
+pack-source-requires-2 : tie.Need-pack-source-requires-2
+pack-source-requires-2 c κs = subst OperandPlaced (c .before .operand2 .given .1) (c .before .before .before .pre)
+
+enum-known-operand-3 : tie.Need-enum-known-operand-3
+enum-known-operand-3 c = search needs
 
 pack-sampler-requires : tie.Need-pack-sampler-requires
-pack-sampler-requires c κs = search needs
+pack-sampler-requires c κs = subst OperandPlaced (c .before .operand3 .given .1) (c .before .before .before .pre)
 
 returns : tie.Need-returns
-returns c = c .pack-nothing .ensures ∙ ap (λ k. packed (operandFits k (c .before .before .before .args .operand)) (operandField (c .before .before .before .args .operand))) (sym (c .before .enum-told .given .1))
+returns c = search needs
 
 returns-2 : tie.Need-returns-2
-returns-2 c = c .pack-source .ensures ∙ ap (λ k. packed (operandFits k (c .before .before .before .args .operand)) (operandField (c .before .before .before .args .operand))) (sym (c .before .enum-told2 .given .1))
+returns-2 c = c .pack-source .ensures ∙ ap operandField (sym (c .before .before .operand .given .1))
 
 returns-3 : tie.Need-returns-3
-returns-3 c = c .pack-sampler .ensures ∙ ap (λ k. packed (operandFits k (c .before .before .before .args .operand)) (operandField (c .before .before .before .args .operand))) (sym (c .before .enum-told3 .given .1))
+returns-3 c = c .pack-source2 .ensures ∙ ap operandField (sym (c .before .before .operand2 .given .1))
+
+returns-4 : tie.Need-returns-4
+returns-4 c = c .pack-sampler .ensures ∙ ap operandField (sym (c .before .before .operand3 .given .1))
 
 pub pack-operand-spec : {M : Type 1} → statement M
 pack-operand-spec =
     tie.close
     (tie.spec
     enum-told
-    pack-nothing-requires
-    enum-told-2
+    enum-known-operand
     pack-source-requires
-    enum-told-3
+    enum-known-operand-2
+    pack-source-requires-2
+    enum-known-operand-3
     pack-sampler-requires
     returns
     returns-2
-    returns-3)
+    returns-3
+    returns-4)

@@ -1,49 +1,34 @@
 -- `pack_sampler` meets its contract.
 -- Assumes nothing.
 use borrow.Author.Needs.{needs}
-use mathlib.Core.Path.{_∙_, ap, sym}
-use Rattle.bytecode.specs.Encode.{packed, operandFits, operandField}
-use Rattle.layout.specs.declared.opcodes.OperandShape.the-variants.{Sampler as SamplerField}
+use mir.Syntax.{w8}
+use mir.Val.{SFits}
+use mir.ValLaws.{toZ-ofZ}
+use Rattle.bytecode.specs.Encode.{samplerField}
 use Rattle.bytecode.proofs.pack.pack_sampler.Statement.{statement}
 use Rattle.bytecode.proofs.pack.pack_sampler.Tie as tie
 
-enum-told : tie.Need-enum-told
-enum-told c = search needs
+unsigned-byte-requires : tie.Need-unsigned-byte-requires
+unsigned-byte-requires c κs = search needs
 
-enum-told-2 : tie.Need-enum-told-2
-enum-told-2 c = search needs
+sampler-low-requires : tie.Need-sampler-low-requires
+sampler-low-requires c κs = search needs
 
-enum-told-3 : tie.Need-enum-told-3
-enum-told-3 c = search needs
+sampler-high-requires : tie.Need-sampler-high-requires
+sampler-high-requires c κs = search needs
 
-enum-known-operand : tie.Need-enum-known-operand
-enum-known-operand c = search needs
-
-pack-settings-requires : tie.Need-pack-settings-requires
-pack-settings-requires c κs = search needs
+add-result : tie.Need-add-result
+add-result c = search needs
 
 returns : tie.Need-returns
-returns c = search needs
-
-returns-2 : tie.Need-returns-2
-returns-2 c = search needs
-
-returns-3 : tie.Need-returns-3
-returns-3 c = search needs
-
-returns-4 : tie.Need-returns-4
-returns-4 c = c .pack-settings .ensures ∙ ap (λ o. packed (operandFits SamplerField o) (operandField o)) (sym (c .before .before .operand .given .1))
+unfolding samplerField
+returns c =
+    let s = c .before .before .before .before .args .sampler in
+    let f : SFits w8 (s .bias) = search needs in
+    let b = rw (toZ-ofZ w8 (s .bias) f) at (c .before .before .unsigned-byte .ensures) in
+    simp (c .sampler-high .ensures .0, c .before .sampler-low .ensures .0, b .0)
 
 pub pack-sampler-spec : {M : Type 1} → statement M
 pack-sampler-spec =
     tie.close
-    (tie.spec
-    enum-told
-    enum-told-2
-    enum-told-3
-    enum-known-operand
-    pack-settings-requires
-    returns
-    returns-2
-    returns-3
-    returns-4)
+    (tie.spec unsigned-byte-requires sampler-low-requires sampler-high-requires add-result returns)
