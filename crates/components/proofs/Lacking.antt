@@ -5,6 +5,7 @@ use mathlib.Core.Bool.{Bool, true, false, _||_, false≢true}
 use mathlib.Core.Path.{_≡_, refl, sym, _∙_}
 use native.Mathlib.Numerals.{add-one}
 use native.Mathlib.Omega.{arith}
+use Rattle.laws.proofs.Every.{neither}
 use Rattle.paths.specs.Check.{lacks}
 use Rattle.components.specs.Reads.{maskComponents}
 use Rattle.components.specs.Written.{halfOf, componentSet, lacksRow, lacksOf}
@@ -49,7 +50,3 @@ lacks-nothing s r (suc n) m h =
     let row = misses-none m (halfOf s r / 2 ^ (r % 16 * 4)) (neither (lacksRow s r 15) (lacksOf s (suc r) n 15) both .0) in
     let rest = lacks-nothing s (suc r) n m (neither (lacksRow s r 15) (lacksOf s (suc r) n 15) both .1) in
     lacks-more s r n m ∙ rw (row, rest)
-  where
-    neither : (a b : Bool) → (a || b) ≡ false → (a ≡ false) × (b ≡ false)
-    neither true b e = absurd (false≢true (sym e))
-    neither false b e = (refl, e)

@@ -1,11 +1,13 @@
 -- Document 01, "Ways, reads and writes", as Reads states it, in the form that the code uses: a register, how many rows from it, and a set
 -- of components as a number. What each of these definitions stands for is proved of Reads.
 use Prim.Native.Nat.{ℕ, _*_, _/_, _%_, _^_}
-use mathlib.Core.Bool.{Bool, cond, _&&_}
+use mathlib.Core.Bool.{Bool, cond, _&&_, _||_}
 use mathlib.Core.List.{List, [], _∷_}
 use lib.Bits.{bitOr}
 use lib.Dec.{ltb, eqb}
 use Rattle.layout.specs.Opcodes.{isIn, kil, tex}
+use Rattle.layout.specs.Records.{registerOf, directOf}
+use Rattle.layout.specs.declared.fields.Fields.{Fields}
 use Rattle.layout.specs.declared.record.DirectSource.{DirectSource}
 use Rattle.layout.specs.declared.record.IndexedSource.{IndexedSource}
 use Rattle.layout.specs.declared.record.Operand.{Operand}
@@ -101,3 +103,13 @@ access2Of t = accessThrough (rowCount2 (t .opcode)) (components2Of t) (t .source
 -- some of the four components of a direct source's rows is not written, whether it is read or not
 unfoldable pub lacksSome : Written → ℕ → DirectSource → Bool
 lacksSome s rows d = eqb (d .kind) 2 && lacksOf s (d .number) rows 15
+
+-- of a direct source of one row the components that some selectors name
+abbrev pub selectedAccess : ℕ → DirectSource → Access
+selectedAccess selectors d = directAccess 1 (λ swizzle. namedSet swizzle selectors) d
+
+-- what is read through two direct sources of one row each is not all written; a sampler's dimension is of no matter
+unfoldable pub plainUnwritten : Written → Fields → Bool
+plainUnwritten s f =
+    lacksAccess s (selectedAccess (selectorSet1 (f .opcode) (registerOf (f .destination) .mask) 0) (directOf (f .source1)))
+    || lacksAccess s (selectedAccess (selectorSet2 (f .opcode) (registerOf (f .destination) .mask)) (directOf (f .source2)))

@@ -4,7 +4,7 @@ ghost use Prim.Native.Nat.{_*_, _^_, _<_};
 ghost use Rattle.layout.specs.Records.{directOf, indexedOf, sourceOf, destinationOf, operandOf, tokenOf};
 ghost use Rattle.components.specs.Reads.{maskOf, dimensionOf, rowCount2};
 ghost use Rattle.components.specs.Access.{amongOf, namedSet, coordinateSet, selectorSet1, selectorSet2, readSet2};
-ghost use Rattle.components.specs.Access.{lacksAccess, lacksSome, directAccess, indexAccess, accessThrough, components1Of, components2Of, access1Of, access2Of};
+ghost use Rattle.components.specs.Access.{lacksAccess, lacksSome, plainUnwritten, selectedAccess, directAccess, indexAccess, accessThrough, components1Of, components2Of, access1Of, access2Of};
 use crate::written;
 use crate::written::Written;
 use layout::fields::Fields;
@@ -69,12 +69,10 @@ fn direct_unwritten1(current: Written, shape: Shape, f: Fields) -> bool
     if !lacks_some(current, 1, f.source1) {
         return false;
     }
-    let source = layout::unpack_direct(f.source1);
     let mask = mask_of(shape.destination, f.destination);
     let shape2 = shape.source2;
     let selectors = selectors1(f.opcode, mask, dimension_of(shape2, f.source2));
-    let components = named(source.swizzle, selectors);
-    written::lacks(current, source.number, 1, components)
+    direct_lacks(current, f.source1, selectors)
 }
 
 // The same of source 2.
@@ -109,6 +107,28 @@ fn direct_unwritten2(current: Written, shape: Shape, f: Fields) -> bool
     let mask = mask_of(shape.destination, f.destination);
     let components = components2(f.opcode, mask, source.swizzle);
     written::lacks(current, source.number, rows, components)
+}
+
+// Whether a token reads what is not written, where its sources are direct and each is one register or none, and its destination is used. One
+// that is 0, and so names no temporary register, may be none.
+pub fn plain_unwritten(current: Written, f: Fields) -> bool
+    ensures { λ r. ⌜ r ≡ plainUnwritten current f ⌝ }
+{
+    if !(lacks_some(current, 1, f.source1) | lacks_some(current, 1, f.source2)) {
+        return false;
+    }
+    let register = layout::unpack_register(f.destination);
+    direct_lacks(current, f.source1, selectors1(f.opcode, register.mask, 0))
+        | direct_lacks(current, f.source2, selectors2(f.opcode, register.mask))
+}
+
+// Whether a direct source is a temporary register that lacks a component which the selectors name.
+fn direct_lacks(current: Written, field: u64, selectors: u8) -> bool
+    ensures { λ r. ⌜ r ≡ lacksAccess current (selectedAccess selectors (directOf field)) ⌝ }
+{
+    let source = layout::unpack_direct(field);
+    let components = named(source.swizzle, selectors);
+    (source.kind == 2) & written::lacks(current, source.number, 1, components)
 }
 
 // Whether a direct source is a temporary register that lacks a component, or one of so many rows does. If not, it is not to be asked which

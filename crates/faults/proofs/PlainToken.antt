@@ -1,16 +1,16 @@
 -- A plain token, as the tests tell it, has no fault of fields and none of faults 10 to 19.
 -- Assumes nothing.
-use Prim.Native.Nat.{ℕ, _+_, _*_, _%_, _^_, _<_}
+use Prim.Native.Nat.{ℕ, _≤_, _+_, _*_, _%_, _^_, _<_}
 use mathlib.Core.Bool.{Bool, true, false, not, cond, _&&_, _||_, and-false, false≢true, true≢false}
-use mathlib.Core.Path.{_≡_, refl, _∙_, ap, sym, subst}
+use mathlib.Core.Path.{_≡_, refl, _∙_, ap, ap₂, sym, subst, fun-ext}
 use native.Mathlib.Decide.{decLt}
 use native.Mathlib.Nat.{zero-div}
 use native.Mathlib.Omega.{arith}
 use lib.Bits.{bitAnd}
-use lib.Dec.{eqb, ltb, leb, eqb→eq}
-use borrow.Author.Tests.{eq-eqb, ne-eqb, lt-leb, le-ltb, ltb-true, leb-false, eqb-true, not-true}
+use lib.Dec.{T, eqb, ltb, leb, eqb→eq, leb→le, ltb→lt}
+use borrow.Author.Tests.{eq-eqb, ne-eqb, le-leb, lt-leb, le-ltb, ltb-true, eqb-true, not-true}
 use Rattle.laws.specs.Tests.{every}
-use Rattle.laws.proofs.Every.{below, left, right, both-left, both-right, either-right}
+use Rattle.laws.proofs.Every.{below, left, right, both-left, both-right, either-right, neither}
 use Rattle.bytecode.specs.Decode.{noRefusal, isClean}
 use Rattle.bytecode.proofs.DecodeLaws.{Clean, is-clean}
 use Rattle.layout.specs.Layout as layout
@@ -26,10 +26,11 @@ use Rattle.layout.specs.declared.record.Operand.{Operand}
 use Rattle.layout.specs.declared.record.Token.{Token}
 use Rattle.layout.proofs.SourceKinds.{direct-source}
 use Rattle.layout.proofs.Stray.{wider, value-within}
-use Rattle.components.specs.Access.{lacksAccess, lacksSome, accessThrough, components1Of, components2Of, access1Of, access2Of}
+use Rattle.components.specs.Access.{Access, lacksAccess, namedSet, selectorSet1, selectorSet2, selectedAccess, plainUnwritten, directAccess, accessThrough, access1Of, access2Of}
 use Rattle.components.specs.declared.written.Written.{Written}
-use Rattle.components.proofs.AccessLaws.{none-missing}
-use Rattle.components.proofs.Among.{one-row}
+use Rattle.components.specs.Reads.{dimensionOf}
+use Rattle.components.proofs.AccessFields.{source-dimension}
+use Rattle.components.proofs.Among.{one-row, by-selectors}
 use Rattle.registers.specs.Counts.{countOf}
 use Rattle.registers.specs.Uses.{isReadable, isWritable}
 use Rattle.registers.proofs.Outside.{outside-edition, outside-stage}
@@ -38,32 +39,77 @@ use Rattle.faults.specs.Rules.{destinationWrong, maskWrong, directWrong}
 use Rattle.faults.specs.Profile.{profileOf, countIn}
 use Rattle.faults.specs.Order.{firstFault, sourceRules}
 use Rattle.faults.specs.Faults.{numberOf, swizzleWrong, ownFault}
-use Rattle.faults.specs.Plain.{usableOf, countAt, isSource, plainSourceBits, isPlainDestination, isPlainSource, isPlain}
+use Rattle.faults.specs.Plain.{usableOf, countAt, isSource, isPlainOpcode, plainSourceBits, isPlainDestination, isPlainSource, isPlain}
 use Rattle.faults.specs.declared.plain.Usable.{Usable}
 use Rattle.faults.specs.declared.profile.Profile.{Profile}
 use Rattle.faults.proofs.Added.{added}
 use Rattle.faults.proofs.Counts.{counts-are}
 use Rattle.faults.proofs.FaultLaws.{staged}
 
--- no rule of an operand of one row is broken, in whichever place, with an opcode below m33, the first that rule 18 names
+-- ---- plain opcodes
+
+-- an opcode is not among those from m33 to tex, which have rules or shapes of their own
+abbrev pub Apart : ℕ → Type 0
+Apart o = 0x17 ≤ o → o < 0x29 → ⊥
+
+past-plain : (o : ℕ) → 64 ≤ o → false ≡ isPlainOpcode o
+unfolding isPlainOpcode
+past-plain o h = rw (le-leb 64 o h)
+
+-- a fact that holds of every plain opcode, by one test over them
+for-plain : (fact : ℕ → Bool) → T (every (λ o. not (isPlainOpcode o) || fact o) 64) → (o : ℕ) → isPlainOpcode o ≡ true → T (fact o)
+for-plain fact t o e =
+    elim (decLt o 64) [
+      | yes h ↦ either-right (not (isPlainOpcode o)) (fact o) (below (λ o. not (isPlainOpcode o) || fact o) 64 t o h) (ap not e)
+      | no g ↦ absurd (false≢true (past-plain o (omega (arith, g)) ∙ e))
+    ]
+
+pub apart : (o : ℕ) → isPlainOpcode o ≡ true → Apart o
+unfolding isPlainOpcode
+apart o e low high =
+    let t = for-plain (λ o. ltb o 0x17 || leb 0x29 o) tt o e in
+    let k = either-right (ltb o 0x17) (leb 0x29 o) t (le-ltb o 0x17 low) in
+    let h = leb→le 0x29 o k in
+    omega arith
+
+not-one : (o : ℕ) → Apart o → (k : ℕ) → T (leb 0x17 k && ltb k 0x29) → eqb o k ≡ false
+not-one o a k h =
+    let low = leb→le 0x17 k (both-left (leb 0x17 k) (ltb k 0x29) h) in
+    let high = ltb→lt k 0x29 (both-right (leb 0x17 k) (ltb k 0x29) h) in
+    ne-eqb o k (λ e. a (omega (arith, e)) (omega (arith, e)))
+
+pub beyond : (o : ℕ) → Apart o → 0x17 ≤ o → 0x29 ≤ o
+beyond o a h =
+    elim (decLt o 0x29) [
+      | yes l ↦ absurd (a h l)
+      | no g ↦ omega (arith, g)
+    ]
+
+-- rule 18 names none of the others
+pub not-swizzled : (second : Bool) (opcode swizzle : ℕ) → Apart opcode → swizzleWrong second opcode swizzle ≡ false
+not-swizzled true opcode swizzle h = simp (not-one opcode h 0x17 tt, not-one opcode h 0x18 tt, not-one opcode h 0x19 tt)
+not-swizzled false opcode swizzle h = simp (not-one opcode h 0x27 tt)
+
+-- nor do the editions add one
+not-added : (opcode : ℕ) → Apart opcode → isIn opcode addedOpcodes ≡ false
+not-added opcode h =
+    sym (added opcode)
+    ∙ elim (decLt opcode 0x1a) [
+      | yes l ↦ simp (lt-leb 0x1a opcode l)
+      | no g ↦ simp (le-leb 0x1a opcode (omega (arith, g)), le-ltb opcode 0x22 (omega (arith, beyond opcode h (omega (arith, g)))))
+    ]
+
+-- ---- what is shown of a plain token
+
+-- no rule of an operand of one row is broken, in whichever place
 abbrev NoSourceFault : Profile → Operand → Type 0
 NoSourceFault profile o =
-    (second : Bool) (opcode : ℕ) → opcode < 0x17
+    (second : Bool) (opcode : ℕ) → Apart opcode
     → numberOf (firstFault (sourceRules (countIn profile) (profile .stage) 1 (swizzleWrong second opcode) 0 o)) ≡ 0
 
 -- a token has none of faults 10 to 19, wherever it stands
 abbrev pub NoOwnFault : Profile → Token → Type 0
 NoOwnFault profile t = (token : ℕ) → ownFault profile token t ≡ noRefusal
-
--- rule 18 names no opcode below m33
-pub not-swizzled : (second : Bool) (opcode swizzle : ℕ) → opcode < 0x17 → swizzleWrong second opcode swizzle ≡ false
-not-swizzled true opcode swizzle h =
-    simp (ne-eqb opcode 0x17 (λ e. omega (arith, e)), ne-eqb opcode 0x18 (λ e. omega (arith, e)), ne-eqb opcode 0x19 (λ e. omega (arith, e)))
-not-swizzled false opcode swizzle h = simp (ne-eqb opcode 0x27 (λ e. omega (arith, e)))
-
--- nor do the editions add one
-not-added : (opcode : ℕ) → opcode < 0x17 → isIn opcode addedOpcodes ≡ false
-not-added opcode h = sym (added opcode) ∙ simp (lt-leb 0x1a opcode (omega arith))
 
 plain-source : (p : Profile) (field : ℕ) → isIndexed field ≡ false → directWrong (countIn p) (p .stage) 1 (directOf field) ≡ false
     → NoSourceFault p (sourceOf field)
@@ -71,7 +117,7 @@ plain-source p field i d second opcode h =
     ap (λ o. numberOf (firstFault (sourceRules (countIn p) (p .stage) 1 (swizzleWrong second opcode) 0 o))) (direct-source field i)
     ∙ simp (d, not-swizzled second opcode (directOf field .swizzle) h)
 
-plain-token : (p : Profile) (t : Token) → t .opcode < 0x17
+plain-token : (p : Profile) (t : Token) → Apart (t .opcode)
     → destinationWrong (countIn p) (p .stage) (t .destination) ≡ false → maskWrong (t .opcode) (t .destination) ≡ false
     → NoSourceFault p (t .source1) → NoSourceFault p (t .source2) → NoOwnFault p t
 unfolding ownFault
@@ -79,13 +125,13 @@ plain-token p t h d m first second token =
     simp (
       not-added (t .opcode) h,
       and-false,
-      ne-eqb (t .opcode) 0x27 (λ e. omega (arith, e)),
-      ne-eqb (t .opcode) 0x28 (λ e. omega (arith, e)),
+      not-one (t .opcode) h 0x27 tt,
+      not-one (t .opcode) h 0x28 tt,
       staged p token t,
       d,
       m,
       first false (t .opcode) h,
-      one-row (t .opcode) (λ low high. omega arith),
+      one-row (t .opcode) (λ low high. h low (omega arith)),
       second true (t .opcode) h,
     )
 
@@ -154,7 +200,7 @@ usable-counts edition stage kind h =
       | no e ↦ none-agree edition stage kind (λ k. outside-edition k edition stage (omega (arith, e)))
     ]
 
--- ---- what opcodes below m33 hold
+-- ---- what plain opcodes hold
 
 abbrev isSampler : OperandShape → Bool
 isSampler Unused = false
@@ -165,8 +211,8 @@ isSampler Sampler = true
 abbrev FirstShape : Shape → Type 0
 FirstShape s = (s ≡ holds true Source (s .source2)) × (isSampler (s .source2) ≡ false)
 
-first-shape : (o : ℕ) → o < 0x17 → FirstShape (shapeOf o)
-unfolding rowOf shapeOfRow
+first-shape : (o : ℕ) → isPlainOpcode o ≡ true → FirstShape (shapeOf o)
+unfolding isPlainOpcode rowOf shapeOfRow
 first-shape o h = go (eqb (rowOf o) 2) refl
   where
     by-row : (r : ℕ) → FirstShape (shapeOfRow r) → rowOf o ≡ r → FirstShape (shapeOf o)
@@ -174,7 +220,7 @@ first-shape o h = go (eqb (rowOf o) 2) refl
 
     go : (b : Bool) → eqb (rowOf o) 2 ≡ b → FirstShape (shapeOf o)
     go true e = by-row 2 (refl, refl) (eqb-true (rowOf o) 2 e)
-    go false e = by-row 3 (refl, refl) (eqb→eq (rowOf o) 3 (either-right (eqb (rowOf o) 2) (eqb (rowOf o) 3) (below (λ o. eqb (rowOf o) 2 || eqb (rowOf o) 3) 0x17 tt o h) e))
+    go false e = by-row 3 (refl, refl) (eqb→eq (rowOf o) 3 (either-right (eqb (rowOf o) 2) (eqb (rowOf o) 3) (for-plain (λ o. eqb (rowOf o) 2 || eqb (rowOf o) 3) tt o h) e))
 
 -- ---- plain operands
 
@@ -203,7 +249,8 @@ module _ (edition stage : ℕ) where
   record PlainSource (shape : OperandShape) (field : ℕ) : Type 0 where
     defined : isStray (operandBits shape) field ≡ false
     right : NoSourceFault profile (operandOf shape field)
-    written : (s : Written) (components : ℕ → ℕ) → lacksSome s 1 (directOf field) ≡ false → lacksAccess s (accessThrough 1 components (operandOf shape field)) ≡ false
+    written : (s : Written) (components : ℕ → ℕ) → lacksAccess s (directAccess 1 components (directOf field)) ≡ false → lacksAccess s (accessThrough 1 components (operandOf shape field)) ≡ false
+    dimension : dimensionOf (operandOf shape field) ≡ 0
 
   plain-destination : (opcode field : ℕ) → isPlainDestination (usableIn edition stage .writable) opcode field ≡ true → PlainDestination opcode field
   unfolding isPlainDestination Agree
@@ -239,13 +286,14 @@ module _ (edition stage : ℕ) where
       record {
         defined = wider (plainSourceBits true) (operandBits Source) field refl stray;
         right = plain-source profile field i d;
-        written = λ s components h. ap (λ o. lacksAccess s (accessThrough 1 components o)) (direct-source field i) ∙ sym (none-missing s 1 components (directOf field) h);
+        written = λ s components h. ap (λ o. lacksAccess s (accessThrough 1 components o)) (direct-source field i) ∙ h;
+        dimension = source-dimension field;
       }
 
   -- one that is not
   plain-unused : (field : ℕ) → isPlainSource (usableIn edition stage .readable) false field ≡ true → PlainSource Unused field
   unfolding isPlainSource
-  plain-unused field e = record { defined = not-true (isStray 0 field) (left (not (isStray 0 field)) true e); right = λ second opcode h. refl; written = λ s components h. refl }
+  plain-unused field e = record { defined = not-true (isStray 0 field) (left (not (isStray 0 field)) true e); right = λ second opcode h. refl; written = λ s components h. refl; dimension = refl }
 
   plain-second : (shape : OperandShape) (field : ℕ) → isSampler shape ≡ false → isPlainSource (usableIn edition stage .readable) (isSource shape) field ≡ true → PlainSource shape field
   plain-second Unused field n e = plain-unused field e
@@ -254,14 +302,14 @@ module _ (edition stage : ℕ) where
 
   -- ---- plain tokens
 
-  -- what is shown of the record of a plain token: it has no fault, and reads only what its sources name
+  -- what is shown of the record of a plain token: it has no fault, and what it reads is told by its fields
   pub record PlainToken (f : Fields) : Type 0 where
-    pub opcode : f .opcode < 0x17
+    pub opcode : Apart (f .opcode)
     pub clean : isClean (shapeOf (f .opcode)) f ≡ true
     pub right : NoOwnFault profile (tokenOf (shapeOf (f .opcode)) f)
     pub destination : tokenOf (shapeOf (f .opcode)) f .destination ≡ Masked (registerOf (f .destination))
-    pub written1 : (s : Written) → lacksSome s 1 (directOf (f .source1)) ≡ false → lacksAccess s (access1Of (tokenOf (shapeOf (f .opcode)) f)) ≡ false
-    pub written2 : (s : Written) → lacksSome s 1 (directOf (f .source2)) ≡ false → lacksAccess s (access2Of (tokenOf (shapeOf (f .opcode)) f)) ≡ false
+    pub written1 : (s : Written) → plainUnwritten s f ≡ false → lacksAccess s (access1Of (tokenOf (shapeOf (f .opcode)) f)) ≡ false
+    pub written2 : (s : Written) → plainUnwritten s f ≡ false → lacksAccess s (access2Of (tokenOf (shapeOf (f .opcode)) f)) ≡ false
 
   module _ (f : Fields) where
     abbrev o : ℕ
@@ -276,28 +324,65 @@ module _ (edition stage : ℕ) where
     abbrev second : Bool
     second = isPlainSource (usableIn edition stage .readable) (isSource (shapeOf o .source2)) (f .source2)
 
-    when-plain : o < 0x17 → (destination && first && second) ≡ true → PlainToken f
-    unfolding tokenOf
-    when-plain h e =
-        let (whole, not-sampler) = first-shape o h in
-        let both = left (destination && first) second e in
-        let d = plain-destination o (f .destination) (left destination first both) in
-        let a = plain-direct (f .source1) (right destination first both) in
-        let b = plain-second (shapeOf o .source2) (f .source2) not-sampler (right (destination && first) second e) in
-        let t = tokenOf (shapeOf o) f in
-        record {
-          opcode = h;
-          clean = is-clean (shapeOf o) f (subst (λ s. Clean s f) (sym whole) (record { listed = refl; destination = d .defined; source1 = a .defined; source2 = b .defined }));
-          right = subst (λ s. NoOwnFault profile (tokenOf s f)) (sym whole) (plain-token profile (tokenOf (holds true Source (shapeOf o .source2)) f) h (d .right) (d .mask) (a .right) (b .right));
-          destination = ap (λ s. destinationOf (s .destination) (f .destination)) whole;
-          written1 = λ s l. ap (λ x. lacksAccess s (accessThrough 1 (components1Of t) (operandOf (x .source1) (f .source1)))) whole ∙ a .written s (components1Of t) l;
-          written2 = λ s l. ap (λ n. lacksAccess s (accessThrough n (components2Of t) (t .source2))) (one-row o (λ low high. omega arith)) ∙ b .written s (components2Of t) l;
-        }
+    abbrev selected1 : Access
+    selected1 = selectedAccess (selectorSet1 o (registerOf (f .destination) .mask) 0) (directOf (f .source1))
+
+    abbrev selected2 : Access
+    selected2 = selectedAccess (selectorSet2 o (registerOf (f .destination) .mask)) (directOf (f .source2))
+
+    -- what the code asks of each source
+    asked : (s : Written) → plainUnwritten s f ≡ false → (lacksAccess s selected1 ≡ false) × (lacksAccess s selected2 ≡ false)
+    unfolding plainUnwritten
+    asked s e = neither (lacksAccess s selected1) (lacksAccess s selected2) e
+
+    module _ (p : isPlainOpcode o ≡ true) (e : (destination && first && second) ≡ true) where
+      abbrev shape2 : OperandShape
+      shape2 = shapeOf o .source2
+
+      abbrev t : Token
+      t = tokenOf (holds true Source shape2) f
+
+      whole : shapeOf o ≡ holds true Source shape2
+      whole = first-shape o p .0
+
+      d : PlainDestination o (f .destination)
+      d = plain-destination o (f .destination) (left destination first (left (destination && first) second e))
+
+      a : PlainSource Source (f .source1)
+      a = plain-direct (f .source1) (right destination first (left (destination && first) second e))
+
+      b : PlainSource shape2 (f .source2)
+      b = plain-second shape2 (f .source2) (first-shape o p .1) (right (destination && first) second e)
+
+      reads1 : (s : Written) → plainUnwritten s f ≡ false → lacksAccess s (access1Of t) ≡ false
+      unfolding tokenOf
+      reads1 s l =
+          ap (λ n. lacksAccess s (accessThrough 1 (λ z. namedSet z (selectorSet1 o (registerOf (f .destination) .mask) n)) (sourceOf (f .source1)))) (b .dimension)
+          ∙ a .written s (λ z. namedSet z (selectorSet1 o (registerOf (f .destination) .mask) 0)) (asked s l .0)
+
+      reads2 : (s : Written) → plainUnwritten s f ≡ false → lacksAccess s (access2Of t) ≡ false
+      unfolding tokenOf
+      reads2 s l =
+          let outside : 0x17 ≤ o → o ≤ 0x19 → ⊥ = λ low high. apart o p low (omega (arith, high)) in
+          ap₂ (λ n c. lacksAccess s (accessThrough n c (operandOf shape2 (f .source2)))) (one-row o outside) (fun-ext (λ z. by-selectors o outside (registerOf (f .destination) .mask) z))
+          ∙ b .written s (λ z. namedSet z (selectorSet2 o (registerOf (f .destination) .mask))) (asked s l .1)
+
+      when-plain : PlainToken f
+      unfolding tokenOf
+      when-plain =
+          record {
+            opcode = apart o p;
+            clean = is-clean (shapeOf o) f (subst (λ s. Clean s f) (sym whole) (record { listed = refl; destination = d .defined; source1 = a .defined; source2 = b .defined }));
+            right = subst (λ s. NoOwnFault profile (tokenOf s f)) (sym whole) (plain-token profile t (apart o p) (d .right) (d .mask) (a .right) (b .right));
+            destination = ap (λ s. destinationOf (s .destination) (f .destination)) whole;
+            written1 = subst (λ x. (s : Written) → plainUnwritten s f ≡ false → lacksAccess s (access1Of (tokenOf x f)) ≡ false) (sym whole) reads1;
+            written2 = subst (λ x. (s : Written) → plainUnwritten s f ≡ false → lacksAccess s (access2Of (tokenOf x f)) ≡ false) (sym whole) reads2;
+          }
 
     pub plain : isPlain (usableIn edition stage) f ≡ true → PlainToken f
     unfolding isPlain
-    plain e = go (leb 0x17 o) refl e
+    plain e = go (isPlainOpcode o) refl e
       where
-        go : (b : Bool) → leb 0x17 o ≡ b → cond b false (destination && first && second) ≡ true → PlainToken f
-        go true l k = absurd (false≢true k)
-        go false l k = when-plain (leb-false 0x17 o l) k
+        go : (b : Bool) → isPlainOpcode o ≡ b → cond b (destination && first && second) false ≡ true → PlainToken f
+        go true l k = when-plain l k
+        go false l k = absurd (false≢true k)

@@ -29,6 +29,10 @@ isSource Unused = false
 isSource Source = true
 isSource Sampler = false
 
+-- a set of opcodes, bit by bit
+unfoldable pub isPlainOpcode : ℕ → Bool
+isPlainOpcode opcode = cond (leb 64 opcode) false (eqb (0x3600007fffff / 2 ^ opcode % 2) 1)
+
 -- the bits of a direct source of a kind below 8 with no offset; none where it is not used
 abbrev pub plainSourceBits : Bool → ℕ
 plainSourceBits used = cond used 0x00030f07ff00ffff 0
@@ -46,7 +50,8 @@ isPlainSource readable used field =
 
 unfoldable pub isPlain : Usable → Fields → Bool
 isPlain u f =
-    cond (leb 0x17 (f .opcode)) false
+    cond (isPlainOpcode (f .opcode))
     (isPlainDestination (u .writable) (f .opcode) (f .destination)
     && isPlainSource (u .readable) true (f .source1)
     && isPlainSource (u .readable) (isSource (shapeOf (f .opcode) .source2)) (f .source2))
+    false

@@ -1,6 +1,6 @@
 // Plain tokens: a few tests of their fields tell that they have no fault. Most tokens are plain; the others are judged rule by rule.
 ghost use mathlib.Core.Path.{_≡_};
-ghost use Rattle.faults.specs.Plain.{usableOf, countAt, isSource, plainSourceBits, isPlainDestination, isPlainSource, isPlain};
+ghost use Rattle.faults.specs.Plain.{usableOf, countAt, isSource, isPlainOpcode, plainSourceBits, isPlainDestination, isPlainSource, isPlain};
 use crate::rules;
 use layout::bits;
 use layout::fields::Fields;
@@ -13,6 +13,10 @@ pub struct Usable {
     pub readable: u64,
     pub writable: u64,
 }
+
+// The opcodes below m33, 17, and from sge, 29, on, as a set: each has a destination and one or two sources, in every edition and stage, and
+// few rules.
+const OPCODES: u64 = 0x3600_007F_FFFF;
 
 // The bits that a plain operand may have: its kind is below 8, and a source is direct and has no offset.
 const DESTINATION_BITS: u64 = 0x070F_FFFF;
@@ -36,11 +40,11 @@ pub fn usable_of(stage: u8, counts: u64) -> Usable
     }
 }
 
-// Whether a token is plain. Each opcode below m33 has a destination and one or two sources, and few rules.
+// Whether a token is plain.
 pub fn is_plain(usable: Usable, f: Fields) -> bool
     ensures { λ r. ⌜ r ≡ isPlain usable f ⌝ }
 {
-    if 0x17 <= f.opcode {
+    if !is_plain_opcode(f.opcode) {
         return false;
     }
     let shape = opcodes::shape_of(f.opcode);
@@ -48,6 +52,15 @@ pub fn is_plain(usable: Usable, f: Fields) -> bool
     is_plain_destination(usable.writable, f.opcode, f.destination)
         & is_plain_source(usable.readable, true, f.source1)
         & is_plain_source(usable.readable, is_source(shape2), f.source2)
+}
+
+fn is_plain_opcode(opcode: u32) -> bool
+    ensures { λ r. ⌜ r ≡ isPlainOpcode opcode ⌝ }
+{
+    if 64 <= opcode {
+        return false;
+    }
+    (OPCODES >> opcode) % 2 == 1
 }
 
 fn is_plain_destination(writable: u64, opcode: u32, field: u64) -> bool

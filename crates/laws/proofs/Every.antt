@@ -37,6 +37,10 @@ pub right : (a b : Bool) → (a && b) ≡ true → b ≡ true
 right true b e = e
 right false b e = absurd (false≢true e)
 
+pub neither : (a b : Bool) → (a || b) ≡ false → (a ≡ false) × (b ≡ false)
+neither true b e = absurd (false≢true (sym e))
+neither false b e = (refl, e)
+
 pub same→eq : (a b : Bool) → T (Bool·beq a b) → a ≡ b
 same→eq true true t = refl
 same→eq true false t = absurd t

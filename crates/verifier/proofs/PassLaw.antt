@@ -1,21 +1,21 @@
--- A plain token that reads no register which lacks something has no fault, and touches the set at hand alone.
+-- A plain token that reads nothing unwritten has no fault, and touches the set at hand alone.
 -- Assumes nothing.
 use Prim.Native.Nat.{ℕ}
 use mathlib.Core.Bool.{true, false, cond}
 use mathlib.Core.Path.{_≡_, _∙_, ap}
 use native.Mathlib.Omega.{arith}
-use lib.Dec.{ltb}
-use borrow.Author.Tests.{lt-ltb}
+use native.Mathlib.Decide.{decLt}
+use borrow.Author.Tests.{lt-ltb, le-ltb, ne-eqb}
 use Rattle.bytecode.specs.Decode.{refusal, noRefusal, isClean}
 use Rattle.layout.specs.Opcodes.{shapeOf}
-use Rattle.layout.specs.Records.{directOf, registerOf, tokenOf}
+use Rattle.layout.specs.Records.{registerOf, tokenOf}
 use Rattle.layout.specs.declared.fields.Fields.{Fields}
 use Rattle.layout.specs.declared.record.Token.{Token}
-use Rattle.components.specs.Access.{lacksAccess, lacksSome, access1Of, access2Of}
+use Rattle.components.specs.Access.{lacksAccess, plainUnwritten, access1Of, access2Of}
 use Rattle.faults.specs.Faults.{ownFault}
 use Rattle.faults.specs.Plain.{usableOf, isPlain}
 use Rattle.faults.specs.Profile.{profileOf}
-use Rattle.faults.proofs.PlainToken.{plain}
+use Rattle.faults.proofs.PlainToken.{Apart, beyond, plain}
 use Rattle.verifier.specs.State.{flowOfCode, isMisplaced, metTop, partedTop, withCurrent, writtenBy, wroteTop}
 use Rattle.verifier.specs.Step.{stepped, followOf, takeOf, stepOf}
 use Rattle.verifier.specs.declared.state.Flow.the-variants.{Plain}
@@ -30,9 +30,20 @@ module _ (top : Top) (token : ℕ) where
       ap (λ f. cond (isMisplaced top f) (stepped (refusal 20 token 0) top) (cond (lacksAccess (metTop top f .current) (access1Of t)) (stepped (refusal 21 token 2) top) (cond (lacksAccess (metTop top f .current) (access2Of t)) (stepped (refusal 21 token 3) top) (stepped noRefusal (partedTop (wroteTop (metTop top f) (t .destination)) f token))))) e
       ∙ rw (a, b)
 
-  plain-flow : (opcode : ℕ) → ltb opcode 0x1c ≡ true → flowOfCode opcode ≡ Plain
+  plain-flow : (o : ℕ) → Apart o → flowOfCode o ≡ Plain
   unfolding flowOfCode
-  plain-flow opcode e = rw e
+  plain-flow o a =
+      elim (decLt o 0x1c) [
+        | yes l ↦ rw (lt-ltb o 0x1c l)
+        | no g ↦
+            let h = beyond o a (omega (arith, g)) in
+            rw (
+              le-ltb o 0x1c (omega (arith, h)),
+              le-ltb o 0x20 (omega (arith, h)),
+              ne-eqb o 0x20 (λ e. omega (arith, h, e)),
+              ne-eqb o 0x21 (λ e. omega (arith, h, e)),
+            )
+      ]
 
   -- a token that decode takes and that has none of faults 10 to 19
   taken : (edition stage : ℕ) (f : Fields) → isClean (shapeOf (f .opcode)) f ≡ true → ownFault (profileOf edition stage) token (tokenOf (shapeOf (f .opcode)) f) ≡ noRefusal
@@ -41,12 +52,12 @@ module _ (top : Top) (token : ℕ) where
   taken edition stage f e q = rw (e, q)
 
   pub passes : (edition stage : ℕ) (f : Fields) → isPlain (usableOf stage (profileOf edition stage .counts)) f ≡ true
-      → lacksSome (top .current) 1 (directOf (f .source1)) ≡ false → lacksSome (top .current) 1 (directOf (f .source2)) ≡ false
+      → plainUnwritten (top .current) f ≡ false
       → stepOf top (profileOf edition stage) token f ≡ stepped noRefusal (withCurrent top (writtenBy (top .current) (registerOf (f .destination))))
   unfolding tokenOf
-  passes edition stage f e a b =
+  passes edition stage f e l =
       let p = plain edition stage f e in
       let t = tokenOf (shapeOf (f .opcode)) f in
       taken edition stage f (p .clean) (p .right token)
-      ∙ follow-plain t (plain-flow (f .opcode) (lt-ltb (f .opcode) 0x1c (omega (arith, p .opcode)))) (p .written1 (top .current) a) (p .written2 (top .current) b)
+      ∙ follow-plain t (plain-flow (f .opcode) (p .opcode)) (p .written1 (top .current) l) (p .written2 (top .current) l)
       ∙ ap (λ d. stepped noRefusal (wroteTop top d)) (p .destination)

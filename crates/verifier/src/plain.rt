@@ -1,5 +1,5 @@
-// Tokens that are passed at a glance: plain ones, that read no register which may lack something. Most are. They leave branches alone, so
-// the set at hand is all of the state that they touch.
+// Tokens that are passed at a glance: plain ones that read nothing unwritten. Most are. They leave branches alone, so the set at hand is all
+// of the state that they touch.
 ghost use mathlib.Core.Bool.{true};
 ghost use mathlib.Core.Path.{_≡_};
 ghost use Rattle.verifier.specs.Pass.{Passes};
@@ -18,9 +18,13 @@ pub struct Passed {
 pub(crate) fn pass(usable: Usable, current: Written, f: Fields) -> Passed
     ensures { λ r. ⌜ (r .known ≡ true → Passes usable current f (r .current)) ⌝ }
 {
-    let lacks = access::lacks_some(current, 1, f.source1)
-        | access::lacks_some(current, 1, f.source2);
-    if lacks | !faults::is_plain(usable, f) {
+    if !faults::is_plain(usable, f) {
+        return Passed {
+            known: false,
+            current,
+        };
+    }
+    if access::plain_unwritten(current, f) {
         return Passed {
             known: false,
             current,

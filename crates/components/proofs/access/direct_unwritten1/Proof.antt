@@ -1,10 +1,10 @@
 -- `direct_unwritten1` meets its contract.
 -- Assumes nothing.
 use mathlib.Core.Path.{_∙_, sym}
-use borrow.Author.Tests.{not-true, not-false}
+use borrow.Author.Tests.{not-true}
 use Rattle.layout.specs.Records.{directOf, tokenOf}
-use Rattle.components.specs.Access.{directAccess, components1Of}
-use Rattle.components.proofs.AccessLaws.{temporary, none-missing, lacking}
+use Rattle.components.specs.Access.{components1Of}
+use Rattle.components.proofs.AccessLaws.{none-missing}
 use borrow.Author.Needs.{needs}
 use Rattle.components.proofs.access.direct_unwritten1.Statement.{statement}
 use Rattle.components.proofs.access.direct_unwritten1.Tie as tie
@@ -17,9 +17,6 @@ returns c =
     let a = c .before .before .args in
     none-missing (a .current) 1 (components1Of (tokenOf (a .shape) (a .f))) (directOf (a .f .source1)) (sym (c .before .lacks-some .ensures) ∙ not-true _ (c .if1 .taken))
 
-unpack-direct-requires : tie.Need-unpack-direct-requires
-unpack-direct-requires c κs = search needs
-
 mask-of-requires : tie.Need-mask-of-requires
 mask-of-requires c κs = search needs
 
@@ -29,28 +26,18 @@ dimension-of-requires c κs = search needs
 selectors1-requires : tie.Need-selectors1-requires
 selectors1-requires c κs = search needs
 
-named-requires : tie.Need-named-requires
-named-requires c κs = search needs
-
-lacks-requires : tie.Need-lacks-requires
-lacks-requires c κs = search needs
+direct-lacks-requires : tie.Need-direct-lacks-requires
+direct-lacks-requires c κs = search needs
 
 returns-2 : tie.Need-returns-2
 unfolding tokenOf
 returns-2 c =
-    let entry = c .before .before .before .before .before .before in
-    let a = entry .before .before .args in
-    let some = entry .before .lacks-some in
     simp (
-      c .before .before .before .before .mask-of .ensures,
-      c .before .before .before .dimension-of .ensures,
-      c .before .before .selectors1 .ensures,
-      c .before .named .ensures,
-      c .before .before .before .before .before .unpack-direct .ensures,
-      c .lacks .ensures,
+      c .direct-lacks .ensures,
+      c .before .selectors1 .ensures,
+      c .before .before .dimension-of .ensures,
+      c .before .before .before .mask-of .ensures,
     )
-    (temporary (a .current) (directAccess 1 (components1Of (tokenOf (a .shape) (a .f))) (directOf (a .f .source1)))
-    (lacking (a .current) 1 (directOf (a .f .source1)) (sym (some .ensures) ∙ not-false _ (entry .if1 .left))))
 
 pub direct-unwritten1-spec : {M : Type 1} → statement M
 direct-unwritten1-spec =
@@ -58,10 +45,8 @@ direct-unwritten1-spec =
     (tie.spec
     lacks-some-requires
     returns
-    unpack-direct-requires
     mask-of-requires
     dimension-of-requires
     selectors1-requires
-    named-requires
-    lacks-requires
+    direct-lacks-requires
     returns-2)
