@@ -9,6 +9,9 @@ use layout::record::DirectSource;
 use layout::record::IndexedSource;
 use layout::record::Sampler;
 
+// nrm, 0e, crs, 11, m33, 17, and m34, 19, as a set.
+const THREE_WIDE: u64 = 0x0282_4000;
+
 // 10
 pub(crate) fn opcode_too_new(edition: u32, opcode: u32) -> bool
     ensures { λ r. ⌜ r ≡ opcodeTooNew edition opcode ⌝ }
@@ -52,7 +55,10 @@ pub(crate) fn mask_wrong(opcode: u32, used: bool, field: u64) -> bool
 fn is_three_wide(opcode: u32) -> bool
     ensures { λ r. ⌜ r ≡ isThreeWide opcode ⌝ }
 {
-    (opcode == 0x0e) | (opcode == 0x11) | (opcode == 0x17) | (opcode == 0x19)
+    if 64 <= opcode {
+        return false;
+    }
+    (THREE_WIDE >> opcode) % 2 == 1
 }
 
 // 16
