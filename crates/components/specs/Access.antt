@@ -6,7 +6,7 @@ use mathlib.Core.List.{List, [], _∷_}
 use lib.Bits.{bitOr}
 use lib.Dec.{ltb, eqb}
 use Rattle.layout.specs.Opcodes.{isIn, kil, tex}
-use Rattle.layout.specs.Records.{registerOf, directOf}
+use Rattle.layout.specs.Records.{registerOf, directOf, samplerOf}
 use Rattle.layout.specs.declared.fields.Fields.{Fields}
 use Rattle.layout.specs.declared.record.DirectSource.{DirectSource}
 use Rattle.layout.specs.declared.record.IndexedSource.{IndexedSource}
@@ -113,3 +113,13 @@ unfoldable pub plainUnwritten : Written → Fields → Bool
 plainUnwritten s f =
     lacksAccess s (selectedAccess (selectorSet1 (f .opcode) (registerOf (f .destination) .mask) 0) (directOf (f .source1)))
     || lacksAccess s (selectedAccess (selectorSet2 (f .opcode) (registerOf (f .destination) .mask)) (directOf (f .source2)))
+
+-- the same through a matrix, all of whose rows' components are asked for, read or not
+unfoldable pub matrixUnwritten : Written → Fields → Bool
+matrixUnwritten s f =
+    lacksAccess s (selectedAccess (selectorSet1 (f .opcode) (registerOf (f .destination) .mask) 0) (directOf (f .source1)))
+    || lacksSome s (rowCount2 (f .opcode)) (directOf (f .source2))
+
+-- and through the coordinates of tex
+unfoldable pub texUnwritten : Written → Fields → Bool
+texUnwritten s f = lacksAccess s (selectedAccess (coordinateSet (samplerOf (f .source2) .dimension)) (directOf (f .source1)))

@@ -4,7 +4,7 @@ ghost use Prim.Native.Nat.{_*_, _^_, _<_};
 ghost use Rattle.layout.specs.Records.{directOf, indexedOf, sourceOf, destinationOf, operandOf, tokenOf};
 ghost use Rattle.components.specs.Reads.{maskOf, dimensionOf, rowCount2};
 ghost use Rattle.components.specs.Access.{amongOf, namedSet, coordinateSet, selectorSet1, selectorSet2, readSet2};
-ghost use Rattle.components.specs.Access.{lacksAccess, lacksSome, plainUnwritten, selectedAccess, directAccess, indexAccess, accessThrough, components1Of, components2Of, access1Of, access2Of};
+ghost use Rattle.components.specs.Access.{lacksAccess, lacksSome, plainUnwritten, matrixUnwritten, texUnwritten, selectedAccess, directAccess, indexAccess, accessThrough, components1Of, components2Of, access1Of, access2Of};
 use crate::written;
 use crate::written::Written;
 use layout::fields::Fields;
@@ -120,6 +120,23 @@ pub fn plain_unwritten(current: Written, f: Fields) -> bool
     let register = layout::unpack_register(f.destination);
     direct_lacks(current, f.source1, selectors1(f.opcode, register.mask, 0))
         | direct_lacks(current, f.source2, selectors2(f.opcode, register.mask))
+}
+
+// The same of a matrix, whose rows of source 2 are asked for all four components.
+pub fn matrix_unwritten(current: Written, f: Fields) -> bool
+    ensures { λ r. ⌜ r ≡ matrixUnwritten current f ⌝ }
+{
+    let register = layout::unpack_register(f.destination);
+    direct_lacks(current, f.source1, selectors1(f.opcode, register.mask, 0))
+        | lacks_some(current, rows2(f.opcode), f.source2)
+}
+
+// The same of tex, which reads through source 1 alone.
+pub fn tex_unwritten(current: Written, f: Fields) -> bool
+    ensures { λ r. ⌜ r ≡ texUnwritten current f ⌝ }
+{
+    let sampler = layout::unpack_sampler(f.source2);
+    direct_lacks(current, f.source1, coordinates(sampler.dimension))
 }
 
 // Whether a direct source is a temporary register that lacks a component which the selectors name.

@@ -1,17 +1,20 @@
 -- The tests that tell a plain token, one that has no fault. Nobody has to believe them: they are proved to tell the truth.
-use Prim.Native.Nat.{ℕ, _*_, _/_, _%_, _^_}
+use Prim.Native.Nat.{ℕ, _+_, _*_, _/_, _%_, _^_}
 use mathlib.Core.Bool.{Bool, true, false, not, cond, _&&_, _||_}
 use lib.Bits.{bitAnd}
 use lib.Dec.{eqb, ltb, leb}
 use Rattle.layout.specs.Layout as layout
-use Rattle.layout.specs.Layout.{valueOf, isStray}
-use Rattle.layout.specs.Opcodes.{shapeOf}
-use Rattle.layout.specs.Records.{destinationOf}
+use Rattle.layout.specs.Layout.{valueOf, operandBits, isStray}
+use Rattle.layout.specs.Opcodes.{shapeOf, tex}
+use Rattle.layout.specs.Records.{destinationOf, samplerOf}
 use Rattle.layout.specs.declared.fields.Fields.{Fields}
 use Rattle.layout.specs.declared.opcodes.OperandShape.{OperandShape}
 use Rattle.layout.specs.declared.opcodes.OperandShape.the-variants.{Unused, Source, Sampler}
-use Rattle.faults.specs.Rules.{maskWrong}
+use Rattle.faults.specs.Rules.{maskWrong, samplerWrong}
+use Rattle.components.specs.Reads.{rowCount2}
+use Rattle.faults.specs.Profile.{countIn}
 use Rattle.faults.specs.declared.plain.Usable.{Usable}
+use Rattle.faults.specs.declared.profile.Profile.{Profile}
 
 -- the counts of the kinds that a stage reads, and of those that it writes
 unfoldable pub usableOf : ℕ → ℕ → Usable
@@ -43,15 +46,34 @@ isPlainDestination writable opcode field =
     && ltb (valueOf layout.number field) (countAt writable (valueOf layout.maskedKind field))
     && not (maskWrong opcode (destinationOf true field))
 
-unfoldable pub isPlainSource : ℕ → Bool → ℕ → Bool
-isPlainSource readable used field =
+-- a source of so many rows
+unfoldable pub isPlainSource : ℕ → Bool → ℕ → ℕ → Bool
+isPlainSource readable used rows field =
     not (isStray (plainSourceBits used) field)
-    && (not used || ltb (valueOf layout.number field) (countAt readable (valueOf layout.kind field)))
+    && (not used || leb (valueOf layout.number field + rows) (countAt readable (valueOf layout.kind field)))
 
 unfoldable pub isPlain : Usable → Fields → Bool
 isPlain u f =
     cond (isPlainOpcode (f .opcode))
     (isPlainDestination (u .writable) (f .opcode) (f .destination)
-    && isPlainSource (u .readable) true (f .source1)
-    && isPlainSource (u .readable) (isSource (shapeOf (f .opcode) .source2)) (f .source2))
+    && isPlainSource (u .readable) true 1 (f .source1)
+    && isPlainSource (u .readable) (isSource (shapeOf (f .opcode) .source2)) 1 (f .source2))
+    false
+
+unfoldable pub isPlainMatrix : Usable → Fields → Bool
+isPlainMatrix u f =
+    cond (eqb (rowCount2 (f .opcode)) 1) false
+    (isPlainDestination (u .writable) (f .opcode) (f .destination)
+    && isPlainSource (u .readable) true 1 (f .source1)
+    && isPlainSource (u .readable) true (rowCount2 (f .opcode)) (f .source2)
+    && eqb (valueOf layout.swizzle (f .source2)) 0xe4)
+
+unfoldable pub isPlainTex : Profile → Usable → Fields → Bool
+isPlainTex p u f =
+    cond (eqb (f .opcode) tex)
+    (isPlainDestination (u .writable) (f .opcode) (f .destination)
+    && isPlainSource (u .readable) true 1 (f .source1)
+    && eqb (p .stage) 1
+    && not (isStray (operandBits Sampler) (f .source2))
+    && not (samplerWrong (countIn p) (samplerOf (f .source2))))
     false

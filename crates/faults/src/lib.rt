@@ -7,6 +7,8 @@ mod tokens;
 
 pub use header::header_fault;
 pub use plain::is_plain;
+pub use plain::is_plain_matrix;
+pub use plain::is_plain_tex;
 pub use plain::usable_of;
 pub use profile::profile_of;
 pub use tokens::own_fault;

@@ -1,7 +1,9 @@
 // Plain tokens: a few tests of their fields tell that they have no fault. Most tokens are plain; the others are judged rule by rule.
 ghost use mathlib.Core.Path.{_≡_};
-ghost use Rattle.faults.specs.Plain.{usableOf, countAt, isSource, isPlainOpcode, plainSourceBits, isPlainDestination, isPlainSource, isPlain};
+ghost use Rattle.faults.specs.Plain.{usableOf, countAt, isSource, isPlainOpcode, plainSourceBits, isPlainDestination, isPlainSource, isPlain, isPlainMatrix, isPlainTex};
+use crate::profile::Profile;
 use crate::rules;
+use components::access;
 use layout::bits;
 use layout::fields::Fields;
 use layout::opcodes;
@@ -40,7 +42,7 @@ pub fn usable_of(stage: u8, counts: u64) -> Usable
     }
 }
 
-// Whether a token is plain.
+// Whether a token with one of these opcodes is plain.
 pub fn is_plain(usable: Usable, f: Fields) -> bool
     ensures { λ r. ⌜ r ≡ isPlain usable f ⌝ }
 {
@@ -50,8 +52,38 @@ pub fn is_plain(usable: Usable, f: Fields) -> bool
     let shape = opcodes::shape_of(f.opcode);
     let shape2 = shape.source2;
     is_plain_destination(usable.writable, f.opcode, f.destination)
-        & is_plain_source(usable.readable, true, f.source1)
-        & is_plain_source(usable.readable, is_source(shape2), f.source2)
+        & is_plain_source(usable.readable, true, 1, f.source1)
+        & is_plain_source(usable.readable, is_source(shape2), 1, f.source2)
+}
+
+// The same of m33, m44 and m34, whose source 2 has three or four rows and is not swizzled.
+pub fn is_plain_matrix(usable: Usable, f: Fields) -> bool
+    ensures { λ r. ⌜ r ≡ isPlainMatrix usable f ⌝ }
+{
+    let rows = access::rows2(f.opcode);
+    if rows == 1 {
+        return false;
+    }
+    let matrix = layout::unpack_direct(f.source2);
+    is_plain_destination(usable.writable, f.opcode, f.destination)
+        & is_plain_source(usable.readable, true, 1, f.source1)
+        & is_plain_source(usable.readable, true, rows, f.source2)
+        & (matrix.swizzle == 0xe4)
+}
+
+// The same of tex, in a fragment program.
+pub fn is_plain_tex(profile: Profile, usable: Usable, f: Fields) -> bool
+    ensures { λ r. ⌜ r ≡ isPlainTex profile usable f ⌝ }
+{
+    if f.opcode != 0x28 {
+        return false;
+    }
+    let sampler = layout::unpack_sampler(f.source2);
+    is_plain_destination(usable.writable, f.opcode, f.destination)
+        & is_plain_source(usable.readable, true, 1, f.source1)
+        & (profile.stage == 1)
+        & !bits::is_stray(bits::operand_bits(OperandShape::Sampler), f.source2)
+        & !rules::sampler_wrong(profile, sampler)
 }
 
 fn is_plain_opcode(opcode: u32) -> bool
@@ -73,11 +105,13 @@ fn is_plain_destination(writable: u64, opcode: u32, field: u64) -> bool
 }
 
 // A source that is not used is 0.
-fn is_plain_source(readable: u64, used: bool, field: u64) -> bool
-    ensures { λ r. ⌜ r ≡ isPlainSource readable used field ⌝ }
+fn is_plain_source(readable: u64, used: bool, rows: u8, field: u64) -> bool
+    ensures { λ r. ⌜ r ≡ isPlainSource readable used rows field ⌝ }
 {
     let s = layout::unpack_direct(field);
-    !bits::is_stray(source_bits(used), field) & (!used | (s.number < count_at(readable, s.kind)))
+    let end = s.number as u32 + rows as u32;
+    let count = count_at(readable, s.kind);
+    !bits::is_stray(source_bits(used), field) & (!used | (end <= count as u32))
 }
 
 fn source_bits(used: bool) -> u64

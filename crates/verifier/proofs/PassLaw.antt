@@ -1,8 +1,8 @@
 -- A plain token that reads nothing unwritten has no fault, and touches the set at hand alone.
 -- Assumes nothing.
 use Prim.Native.Nat.{ℕ}
-use mathlib.Core.Bool.{true, false, cond}
-use mathlib.Core.Path.{_≡_, _∙_, ap}
+use mathlib.Core.Bool.{Bool, true, false, cond, false≢true}
+use mathlib.Core.Path.{_≡_, _∙_, sym, ap}
 use native.Mathlib.Omega.{arith}
 use native.Mathlib.Decide.{decLt}
 use borrow.Author.Tests.{lt-ltb, le-ltb, ne-eqb}
@@ -11,14 +11,16 @@ use Rattle.layout.specs.Opcodes.{shapeOf}
 use Rattle.layout.specs.Records.{registerOf, tokenOf}
 use Rattle.layout.specs.declared.fields.Fields.{Fields}
 use Rattle.layout.specs.declared.record.Token.{Token}
-use Rattle.components.specs.Access.{lacksAccess, plainUnwritten, access1Of, access2Of}
+use Rattle.components.specs.Access.{lacksAccess, access1Of, access2Of}
+use Rattle.components.specs.declared.written.Written.{Written}
 use Rattle.faults.specs.Faults.{ownFault}
-use Rattle.faults.specs.Plain.{usableOf, isPlain}
 use Rattle.faults.specs.Profile.{profileOf}
-use Rattle.faults.proofs.PlainToken.{Apart, beyond, plain}
+use Rattle.faults.proofs.PlainToken.{NoBranch, PlainToken}
+use Rattle.verifier.specs.Pass.{passedUnless}
 use Rattle.verifier.specs.State.{flowOfCode, isMisplaced, metTop, partedTop, withCurrent, writtenBy, wroteTop}
 use Rattle.verifier.specs.Step.{stepped, followOf, takeOf, stepOf}
 use Rattle.verifier.specs.declared.state.Flow.the-variants.{Plain}
+use Rattle.verifier.specs.declared.plain.Passed.{Passed}
 use Rattle.verifier.specs.declared.state.Top.{Top}
 
 module _ (top : Top) (token : ℕ) where
@@ -30,19 +32,21 @@ module _ (top : Top) (token : ℕ) where
       ap (λ f. cond (isMisplaced top f) (stepped (refusal 20 token 0) top) (cond (lacksAccess (metTop top f .current) (access1Of t)) (stepped (refusal 21 token 2) top) (cond (lacksAccess (metTop top f .current) (access2Of t)) (stepped (refusal 21 token 3) top) (stepped noRefusal (partedTop (wroteTop (metTop top f) (t .destination)) f token))))) e
       ∙ rw (a, b)
 
-  plain-flow : (o : ℕ) → Apart o → flowOfCode o ≡ Plain
+  no-branch : (o : ℕ) → NoBranch o → flowOfCode o ≡ Plain
   unfolding flowOfCode
-  plain-flow o a =
+  no-branch o h =
       elim (decLt o 0x1c) [
         | yes l ↦ rw (lt-ltb o 0x1c l)
-        | no g ↦
-            let h = beyond o a (omega (arith, g)) in
-            rw (
-              le-ltb o 0x1c (omega (arith, h)),
-              le-ltb o 0x20 (omega (arith, h)),
-              ne-eqb o 0x20 (λ e. omega (arith, h, e)),
-              ne-eqb o 0x21 (λ e. omega (arith, h, e)),
-            )
+        | no g ↦ elim (decLt o 0x22) [
+          | yes l ↦ absurd (h (omega (arith, g)) l)
+          | no k ↦
+              rw (
+                le-ltb o 0x1c (omega (arith, g)),
+                le-ltb o 0x20 (omega (arith, k)),
+                ne-eqb o 0x20 (λ e. omega (arith, k, e)),
+                ne-eqb o 0x21 (λ e. omega (arith, k, e)),
+              )
+        ]
       ]
 
   -- a token that decode takes and that has none of faults 10 to 19
@@ -51,13 +55,19 @@ module _ (top : Top) (token : ℕ) where
   unfolding stepOf takeOf
   taken edition stage f e q = rw (e, q)
 
-  pub passes : (edition stage : ℕ) (f : Fields) → isPlain (usableOf stage (profileOf edition stage .counts)) f ≡ true
-      → plainUnwritten (top .current) f ≡ false
+  passes : (edition stage : ℕ) (unwritten : Written → Fields → Bool) (f : Fields) → PlainToken edition stage unwritten f → unwritten (top .current) f ≡ false
       → stepOf top (profileOf edition stage) token f ≡ stepped noRefusal (withCurrent top (writtenBy (top .current) (registerOf (f .destination))))
   unfolding tokenOf
-  passes edition stage f e l =
-      let p = plain edition stage f e in
-      let t = tokenOf (shapeOf (f .opcode)) f in
+  passes edition stage unwritten f p l =
       taken edition stage f (p .clean) (p .right token)
-      ∙ follow-plain t (plain-flow (f .opcode) (p .opcode)) (p .written1 (top .current) l) (p .written2 (top .current) l)
+      ∙ follow-plain (tokenOf (shapeOf (f .opcode)) f) (no-branch (f .opcode) (p .flow)) (p .written1 (top .current) l) (p .written2 (top .current) l)
       ∙ ap (λ d. stepped noRefusal (wroteTop top d)) (p .destination)
+
+-- what the code answers of a plain token
+pub passed : (edition stage : ℕ) (unwritten : Written → Fields → Bool) (f : Fields) → PlainToken edition stage unwritten f
+    → (current : Written) (b : Bool) → b ≡ unwritten current f → (r : Passed) → r ≡ passedUnless b current f → r .known ≡ true
+    → (top : Top) → top .current ≡ current → (token : ℕ) → stepOf top (profileOf edition stage) token f ≡ stepped noRefusal (withCurrent top (r .current))
+passed edition stage unwritten f p current true u r e k top at token = absurd (false≢true (sym (ap (λ r. r .known) e) ∙ k))
+passed edition stage unwritten f p current false u r e k top at token =
+    passes top token edition stage unwritten f p (ap (λ w. unwritten w f) at ∙ sym u)
+    ∙ ap (λ w. stepped noRefusal (withCurrent top w)) (ap (λ w. writtenBy w (registerOf (f .destination))) at ∙ sym (ap (λ r. r .current) e))

@@ -40,7 +40,7 @@ fn check_tokens(edition: u32, bytes: &[u8]) -> Checked
     while token < count {
         let f = fields_at(bytes, token);
         let current = state.current;
-        let passed = plain::pass(usable, current, f);
+        let passed = plain::pass(profile, usable, current, f);
         if passed.known {
             let current = passed.current;
             state.current = current;

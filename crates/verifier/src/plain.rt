@@ -2,11 +2,12 @@
 // of the state that they touch.
 ghost use mathlib.Core.Bool.{true};
 ghost use mathlib.Core.Path.{_≡_};
-ghost use Rattle.verifier.specs.Pass.{Passes};
+ghost use Rattle.verifier.specs.Pass.{Passes, passedUnless};
 use crate::state;
 use components::access;
 use components::written::Written;
 use faults::plain::Usable;
+use faults::profile::Profile;
 use layout::fields::Fields;
 
 // Whether a token is known to have no fault, and then the set after it.
@@ -15,16 +16,29 @@ pub struct Passed {
     pub current: Written,
 }
 
-pub(crate) fn pass(usable: Usable, current: Written, f: Fields) -> Passed
-    ensures { λ r. ⌜ (r .known ≡ true → Passes usable current f (r .current)) ⌝ }
+pub(crate) fn pass(profile: Profile, usable: Usable, current: Written, f: Fields) -> Passed
+    ensures { λ r. ⌜ (r .known ≡ true → Passes profile usable current f (r .current)) ⌝ }
 {
-    if !faults::is_plain(usable, f) {
-        return Passed {
-            known: false,
-            current,
-        };
+    if faults::is_plain(usable, f) {
+        return passed_unless(access::plain_unwritten(current, f), current, f);
     }
-    if access::plain_unwritten(current, f) {
+    if faults::is_plain_matrix(usable, f) {
+        return passed_unless(access::matrix_unwritten(current, f), current, f);
+    }
+    if faults::is_plain_tex(profile, usable, f) {
+        return passed_unless(access::tex_unwritten(current, f), current, f);
+    }
+    Passed {
+        known: false,
+        current,
+    }
+}
+
+// A plain token is passed unless it may read what is not written.
+fn passed_unless(unwritten: bool, current: Written, f: Fields) -> Passed
+    ensures { λ r. ⌜ r ≡ passedUnless unwritten current f ⌝ }
+{
+    if unwritten {
         return Passed {
             known: false,
             current,

@@ -9,7 +9,6 @@ use denote.Ref.{now}
 use Rattle.paths.specs.Check.{verdictOf}
 use Rattle.faults.specs.Rules.{stageOf, tokenCount}
 use Rattle.faults.specs.Order.{tokensOf}
-use Rattle.faults.specs.Plain.{usableOf}
 use Rattle.verifier.specs.State.{blankBranch, topOf}
 use Rattle.verifier.specs.Finish.{finishOf}
 use Rattle.verifier.specs.Verdict.{answerOf}
@@ -68,10 +67,11 @@ loop-again c =
     let bytes = now (at-start .args .bytes) in
     let entry = c .before .before .before .before .before .before .loop in
     let inside = c .before .before .before .before .before .loop-test .taken in
-    let usable = c .before .before .before .before .before .before .before .usable-of .ensures ∙ ap (λ p. usableOf (stageOf bytes) (p .counts)) (c .before .before .before .before .before .before .before .before .profile-of .ensures) in
+    let profile = c .before .before .before .before .before .before .before .before .profile-of .ensures in
+    let usable = c .before .before .before .before .before .before .before .usable-of .ensures in
     let read = c .before .before .before .before .fields-at in
     let passed = c .before .before .pass in
-    let step = passed .ensures (c .before .if1 .taken) edition (stageOf bytes) usable (topOf (entry .state)) refl (entry .token) in (
+    let step = passed .ensures (c .before .if1 .taken) edition (stageOf bytes) profile usable (topOf (entry .state)) refl (entry .token) in (
       omega arith,
       pass-valid edition bytes (at-start .pre) (entry .state) (entry .inv .1) (entry .token) inside (read .result) (read .ensures) (passed .result .current) step,
       ap (answerOf bytes)

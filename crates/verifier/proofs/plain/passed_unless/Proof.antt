@@ -1,0 +1,21 @@
+-- `passed_unless` meets its contract.
+-- Assumes nothing.
+use borrow.Author.Needs.{needs}
+use Rattle.verifier.proofs.plain.passed_unless.Statement.{statement}
+use Rattle.verifier.proofs.plain.passed_unless.Tie as tie
+
+returns : tie.Need-returns
+returns c = simp (c .if1 .taken)
+
+unpack-register-requires : tie.Need-unpack-register-requires
+unpack-register-requires c κs = search needs
+
+written-by-requires : tie.Need-written-by-requires
+written-by-requires c κs = search needs
+
+returns-2 : tie.Need-returns-2
+returns-2 c = simp (c .before .before .if1 .left, c .written-by .ensures, c .before .unpack-register .ensures)
+
+pub passed-unless-spec : {M : Type 1} → statement M
+passed-unless-spec =
+    tie.close (tie.spec returns unpack-register-requires written-by-requires returns-2)
