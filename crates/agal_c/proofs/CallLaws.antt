@@ -3,14 +3,20 @@
 use Prim.Native.Nat.{ℕ, _+_, _<_, _≤_}
 use mathlib.Core.Bool.{Bool, true, false, cond, _&&_, false≢true}
 use mathlib.Core.List.{List, _++_}
-use mathlib.Core.Path.{_≡_, refl, sym}
+use mathlib.Core.Path.{_≡_, refl, _∙_, sym, ap}
 use native.Mathlib.Omega.{arith}
 use lib.Dec.{ltb, lit<}
 use lib.ListN.{length, drop}
 use borrow.Author.Tests.{lt-ltb, le-ltb, lt-leb, ltb-false}
-use Rattle.bytecode.specs.Decode.{refusal}
+use Rattle.layout.specs.Opcodes.{shapeOf}
+use Rattle.layout.specs.Records.{tokenOf}
+use Rattle.layout.specs.declared.opcodes.Shape.{Shape}
+use Rattle.layout.specs.declared.fields.Fields.{Fields}
+use Rattle.bytecode.specs.Fields.{fieldsOf, fieldsIn}
+use Rattle.bytecode.specs.Decode.{refusal, isClean, tokenFault, decodeOf}
 use Rattle.bytecode.specs.Encode.{Encodes}
 use Rattle.layout.specs.declared.record.Token.{Token}
+use Rattle.bytecode.specs.declared.answers.Refusal.{Refusal}
 use Rattle.bytecode.specs.declared.answers.Decoded.{Decoded}
 use Rattle.bytecode.specs.declared.answers.Decoded.the-variants.{Token as Read, Refused as NotRead}
 use Rattle.bytecode.specs.declared.answers.Encoded.{Encoded}
@@ -18,22 +24,55 @@ use Rattle.listing.specs.Line.{isNameable, Lists}
 use Rattle.listing.specs.declared.answers.Printed.{Printed}
 use Rattle.listing.specs.declared.answers.Printed.the-variants.{Refused as NotPrinted}
 use Rattle.listing.proofs.LineLaws.{not-nameable}
-use Rattle.reader.specs.Reading.{readOf}
+use Rattle.bytecode.proofs.DecodeLaws.{with-fault, no-faults, clean-none, clean-by, not-clean}
+use Rattle.reader.specs.Reading.{standsAt, readOf}
 use Rattle.reader.proofs.ReadingLaws.{token-left}
 use Rattle.agal_c.specs.Answers.{answered, refused}
 use Rattle.agal_c.specs.Flat.{flatOf, isFlat, tokenOfFlat}
 use Rattle.agal_c.specs.Calls.{HasNextPlace, deliveryAnswer, delivered, encodedAnswer, encodeAnswer, afterFlatEncode, printedAnswer, lineAnswerOf, afterFlatLine}
 
--- ---- a record that was read, into a lent buffer
+-- ---- what decode answers of 24 bytes, from their fields
 
-module _ (t : Token) (d : Decoded) (buffer : List ℕ) (e : d ≡ Read t) where
-  pub no-room : (place step : ℕ) → length buffer < 29
-      → (refused (refusal 23 place 0) place ≡ deliveryAnswer place step d buffer) × (buffer ≡ delivered d buffer)
-  no-room place step h = let l = lt-ltb (length buffer) 29 h in rw e (simp l, simp l)
+module _ (s : List ℕ) (whole : length s ≡ 24) (f : Fields) (k : Shape) (ef : f ≡ fieldsIn s) (ek : k ≡ shapeOf (f .opcode)) where
+  its-fields : f ≡ fieldsOf s
+  unfolding fieldsIn
+  its-fields = ef ∙ rw (le-ltb (length s) 24 (omega arith))
 
-  pub room : (place step : ℕ) → 29 ≤ length buffer
-      → (answered 0 (place + step) ≡ deliveryAnswer place step d buffer) × (flatOf t ++ drop 29 buffer ≡ delivered d buffer)
-  room place step h = let l = le-ltb (length buffer) 29 h in rw e (simp l, simp l)
+  pub faulty : isClean k f ≡ false → decodeOf s ≡ NotRead (tokenFault k f)
+  faulty q =
+      let e = its-fields in
+      let q′ : isClean (shapeOf (fieldsOf s .opcode)) (fieldsOf s) ≡ false = cc in
+      let r = with-fault s whole (not-clean _ _ q′) .answer in
+      cc
+
+  pub fine : isClean k f ≡ true → decodeOf s ≡ Read (tokenOf k f)
+  fine q =
+      let e = its-fields in
+      let q′ : isClean (shapeOf (fieldsOf s .opcode)) (fieldsOf s) ≡ true = cc in
+      let r = no-faults s whole (ap (λ r. r .number) (clean-none _ _ (clean-by _ _ q′))) .answer in
+      cc
+
+-- ---- a token, into a lent buffer
+
+module _ (s buffer : List ℕ) (place step : ℕ) where
+  pub not-read : (r : Refusal) → decodeOf s ≡ NotRead r
+      → (refused (refusal (r .number) place (r .part)) place ≡ deliveryAnswer place step (standsAt place (decodeOf s)) buffer)
+      × (buffer ≡ delivered (standsAt place (decodeOf s)) buffer)
+  not-read r e = rw e (refl, refl)
+
+  module _ (t : Token) (e : decodeOf s ≡ Read t) where
+    pub no-room : length buffer < 29
+        → (refused (refusal 23 place 0) place ≡ deliveryAnswer place step (standsAt place (decodeOf s)) buffer)
+        × (buffer ≡ delivered (standsAt place (decodeOf s)) buffer)
+    no-room h = let l = lt-ltb (length buffer) 29 h in rw e (simp l, simp l)
+
+    pub room : 29 ≤ length buffer
+        → (answered 0 (place + step) ≡ deliveryAnswer place step (standsAt place (decodeOf s)) buffer)
+        × (flatOf t ++ drop 29 buffer ≡ delivered (standsAt place (decodeOf s)) buffer)
+    room h = let l = le-ltb (length buffer) 29 h in rw e (simp l, simp l)
+
+    pub goes-on : HasNextPlace place step (standsAt place (decodeOf s)) → place + step < 0x10000000000000000
+    goes-on h = rw e at h
 
 -- the place after a token is a number of 64 bits: decode counts from 0, and a reader within its program
 pub decode-goes-on : (d : Decoded) → HasNextPlace 0 29 d

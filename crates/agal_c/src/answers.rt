@@ -41,16 +41,16 @@ pub(crate) fn refused(refusal: Refusal, value: usize) -> Answer
     }
 }
 
-// A refusal of this crate's own.
-pub(crate) fn refused_by(number: u8, token: usize, value: usize) -> Answer
-    ensures { λ r. ⌜ r ≡ refusedOf (record { number = number; token = token; part = 0 }) value ⌝ }
+// A refusal at a place, which is its token and stays where it is.
+pub(crate) fn refused_at(number: u8, part: u8, place: usize) -> Answer
+    ensures { λ r. ⌜ r ≡ refusedOf (record { number = number; token = place; part = part }) place ⌝ }
 {
     Answer {
         number,
-        part: 0,
+        part,
         stage: 0,
-        token,
-        value,
+        token: place,
+        value: place,
     }
 }
 

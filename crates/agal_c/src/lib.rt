@@ -33,7 +33,7 @@ pub extern "C" fn agal_decode(token: &[u8], flat: &mut [u8]) -> Answer
     ensures { λ r. ⌜ r ≡ deliveryAnswer 0 29 (decodeOf (now (token .entry))) (now (flat .entry)) ⌝ }
     ensures { λ _. ⌜ now (flat .exit) ≡ delivered (decodeOf (now (token .entry))) (now (flat .entry)) ⌝ }
 {
-    flat::deliver(bytecode::decode(token), 0, 29, flat)
+    flat::deliver(token, 0, 29, flat)
 }
 
 // The step of a reader that has read `place` tokens: the flat form of the next, and the place after it.
@@ -42,7 +42,7 @@ pub extern "C" fn agal_read(program: &[u8], place: usize, flat: &mut [u8]) -> An
     ensures { λ r. ⌜ r ≡ deliveryAnswer place 1 (readOf (now (program .entry)) place) (now (flat .entry)) ⌝ }
     ensures { λ _. ⌜ now (flat .exit) ≡ delivered (readOf (now (program .entry)) place) (now (flat .entry)) ⌝ }
 {
-    flat::deliver(reader::read_at(program, place), place, 1, flat)
+    flat::deliver(reader::token_bytes(program, place), place, 1, flat)
 }
 
 // Encodes a flat form into 24 bytes. What is no flat form is 25, as a record that is not encodable is.
@@ -52,7 +52,7 @@ pub extern "C" fn agal_encode(flat: &[u8], out: &mut [u8]) -> Answer
     ensures { λ _. ⌜ now (out .exit) ≡ afterFlatEncode (now (flat .entry)) (now (out .entry)) ⌝ }
 {
     if !flat::is_flat(flat) {
-        return answers::refused_by(25, 0, 0);
+        return answers::refused_at(25, 0, 0);
     }
     answers::encoded(bytecode::encode(flat::token_of(flat), out))
 }
@@ -64,13 +64,13 @@ pub extern "C" fn agal_line(flat: &[u8], stage: u32, depth: u32, out: &mut [u8])
     ensures { λ _. ⌜ now (out .exit) ≡ afterFlatLine (now (flat .entry)) stage depth (now (out .entry)) ⌝ }
 {
     if !flat::is_flat(flat) {
-        return answers::refused_by(25, 0, 0);
+        return answers::refused_at(25, 0, 0);
     }
     if 255 < stage {
-        return answers::refused_by(25, 0, 0);
+        return answers::refused_at(25, 0, 0);
     }
     if 255 < depth {
-        return answers::refused_by(25, 0, 0);
+        return answers::refused_at(25, 0, 0);
     }
     answers::printed(listing::line(flat::token_of(flat), stage as u8, depth as u8, out))
 }

@@ -1,5 +1,7 @@
 // The values of a destination or a source, whatever its kind: what the flat form has a place for.
 ghost use mathlib.Core.Path.{_≡_};
+ghost use mathlib.Core.Bool.{cond};
+ghost use Rattle.layout.specs.Records.{destinationOf, sourceOf, samplerOf};
 ghost use Rattle.agal_c.specs.Values.{values as valuesOf, destinationValues, samplerValues, operandValues, destinationFrom, samplerFrom, operandFrom};
 use layout::record::Destination;
 use layout::record::DirectSource;
@@ -23,43 +25,47 @@ pub(crate) struct Values {
     pub seventh: u8,
 }
 
-pub(crate) fn destination_values(destination: Destination) -> Values
-    ensures { λ r. ⌜ r ≡ destinationValues destination ⌝ }
+pub(crate) fn destination_values(used: bool, field: u64) -> Values
+    ensures { λ r. ⌜ r ≡ destinationValues (destinationOf used field) ⌝ }
 {
-    match destination {
-        Destination::Unused => source_values(0, 0, 0, 0, 0, 0, 0),
-        Destination::Masked(m) => source_values(1, m.number, m.mask, m.kind, 0, 0, 0),
+    if used {
+        let m = layout::unpack_register(field);
+        return five_values(1, m.number, m.mask, m.kind, 0, 0, 0);
     }
+    no_values()
 }
 
-pub(crate) fn operand_values(operand: Operand) -> Values
-    ensures { λ r. ⌜ r ≡ operandValues operand ⌝ }
+pub(crate) fn no_values() -> Values
+    ensures { λ r. ⌜ r ≡ valuesOf 0 0 0 0 0 0 0 0 0 ⌝ }
 {
-    match operand {
-        Operand::Unused => source_values(0, 0, 0, 0, 0, 0, 0),
-        Operand::Direct(s) => source_values(
-            1,
-            s.number,
-            s.offset,
-            s.swizzle,
-            s.kind,
-            s.index_kind,
-            s.component,
-        ),
-        Operand::Indexed(s) => source_values(
-            2,
-            s.number,
-            s.offset,
-            s.swizzle,
-            s.kind,
-            s.index_kind,
-            s.component,
-        ),
-        Operand::Sampler(s) => sampler_values(s),
-    }
+    five_values(0, 0, 0, 0, 0, 0, 0)
 }
 
-fn source_values(
+// A direct and an indexed source have the same rows.
+pub(crate) fn source_values(field: u64) -> Values
+    ensures { λ r. ⌜ r ≡ operandValues (sourceOf field) ⌝ }
+{
+    let s = layout::unpack_direct(field);
+    let form = source_form(layout::is_indexed(field));
+    five_values(
+        form,
+        s.number,
+        s.offset,
+        s.swizzle,
+        s.kind,
+        s.index_kind,
+        s.component,
+    )
+}
+
+fn source_form(indexed: bool) -> u8
+    ensures { λ r. ⌜ r ≡ cond indexed 2 1 ⌝ }
+{
+    if indexed { 2 } else { 1 }
+}
+
+// The form, the number and all values but those that a sampler alone has.
+fn five_values(
     form: u8,
     number: u16,
     first: u8,
@@ -83,9 +89,10 @@ fn source_values(
     }
 }
 
-fn sampler_values(s: Sampler) -> Values
-    ensures { λ r. ⌜ r ≡ samplerValues s ⌝ }
+pub(crate) fn sampler_values(field: u64) -> Values
+    ensures { λ r. ⌜ r ≡ samplerValues (samplerOf field) ⌝ }
 {
+    let s = layout::unpack_sampler(field);
     let first = bytecode::unsigned_byte(s.bias);
     Values {
         form: 3,

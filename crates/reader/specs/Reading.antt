@@ -1,7 +1,7 @@
 -- Document 01, "Token reader": what opening and each read answer, and where they leave the reader.
 use Prim.Native.Nat.{ℕ, _+_, _*_}
 use mathlib.Core.Bool.{Bool, cond}
-use mathlib.Core.List.{List}
+use mathlib.Core.List.{List, []}
 use mathlib.Core.Path.{_≡_}
 use lib.Dec.{ltb, eqb}
 use lib.ListN.{length}
@@ -38,6 +38,10 @@ tokenStart n = 7 + n * 24
 -- "Fewer than 24 left"
 abbrev pub noTokenLeft : List ℕ → ℕ → Bool
 noTokenLeft s n = ltb (length s) (tokenStart n + 24)
+
+-- the bytes of token n, or none where fewer than 24 are left
+unfoldable pub tokenBytes : List ℕ → ℕ → List ℕ
+tokenBytes s n = cond (noTokenLeft s n) [] (tokenAt s n)
 
 -- "Outside the check a refusal's token is 0, for the reader the token it stands at"
 abbrev pub standsAt : ℕ → Decoded → Decoded

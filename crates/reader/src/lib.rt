@@ -6,3 +6,4 @@ mod steps;
 pub use reading::open;
 pub use reading::read;
 pub use steps::read_at;
+pub use steps::token_bytes;

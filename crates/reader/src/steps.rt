@@ -1,7 +1,7 @@
 // What the reader answers, on a plain slice and a number of tokens read.
 ghost use mathlib.Core.Path.{_≡_};
 ghost use Rattle.bytecode.specs.Decode.{refusal};
-ghost use Rattle.reader.specs.Reading.{openingOf, standsAt, ReadsAt, Steps};
+ghost use Rattle.reader.specs.Reading.{openingOf, tokenBytes, standsAt, ReadsAt, Steps};
 use crate::answers::Opening;
 use bytecode::answers::Decoded;
 use bytecode::answers::Refusal;
@@ -21,21 +21,28 @@ pub(crate) fn opening(program: &[u8]) -> Opening
     Opening::Ready
 }
 
-// What a reader that has read `token` tokens answers.
-pub fn read_at(program: &[u8], token: usize) -> Decoded
-    ensures { λ r. ⌜ ReadsAt (now (program .entry)) token r ⌝ }
+// The bytes of a token, or none where the program has no such token.
+pub fn token_bytes(program: &[u8], token: usize) -> &[u8]
+    ensures { λ r. ⌜ now r ≡ tokenBytes (now (program .entry)) token ⌝ }
 {
     // A header of 7 bytes and one token are 31. Any number may come in, so no sum is made before the token is known to stand within the
     // program.
     if program.len() < 31 {
-        return Decoded::Refused(refused(24, token, 0));
+        return &program[..0];
     }
     if (program.len() - 31) / 24 < token {
-        return Decoded::Refused(refused(24, token, 0));
+        return &program[..0];
     }
     let start = 7 + token * 24;
     let end = start + 24;
-    stands_at(token, bytecode::decode(&program[start..end]))
+    &program[start..end]
+}
+
+// What a reader that has read `token` tokens answers. Where there is no such token, decode answers 24 of no bytes.
+pub fn read_at(program: &[u8], token: usize) -> Decoded
+    ensures { λ r. ⌜ ReadsAt (now (program .entry)) token r ⌝ }
+{
+    stands_at(token, bytecode::decode(token_bytes(program, token)))
 }
 
 // A token moves the reader on, a refusal does not.

@@ -11,14 +11,14 @@ use Rattle.agal_c.proofs.agal_encode.Tie as tie
 is-flat-requires : tie.Need-is-flat-requires
 is-flat-requires c κs = search needs
 
-refused-by-requires : tie.Need-refused-by-requires
-refused-by-requires c κs = search needs
+refused-at-requires : tie.Need-refused-at-requires
+refused-at-requires c κs = search needs
 
 returns : tie.Need-returns
 returns c =
     let f = c .before .before .is-flat in
     let l = not-encoded (now (c .before .before .before .before .before .args .flat)) (now (c .before .before .before .before .before .args .out)) (sym (f .ensures) ∙ not-true (f .result) (c .before .if1 .taken)) in
-    (c .refused-by .ensures ∙ l .0, l .1)
+    (c .refused-at .ensures ∙ l .0, l .1)
 
 token-of-requires : tie.Need-token-of-requires
 token-of-requires c κs =
@@ -46,7 +46,7 @@ agal-encode-spec =
     tie.close
     (tie.spec
     is-flat-requires
-    refused-by-requires
+    refused-at-requires
     returns
     token-of-requires
     encode-requires

@@ -11,35 +11,35 @@ use Rattle.agal_c.proofs.agal_line.Tie as tie
 is-flat-requires : tie.Need-is-flat-requires
 is-flat-requires c κs = search needs
 
-refused-by-requires : tie.Need-refused-by-requires
-refused-by-requires c κs = search needs
+refused-at-requires : tie.Need-refused-at-requires
+refused-at-requires c κs = search needs
 
 returns : tie.Need-returns
 returns c =
     let f = c .before .before .is-flat in
     let a = c .before .before .before .before .before .args in
     let l = not-listed (now (a .flat)) (now (a .out)) (sym (f .ensures) ∙ not-true (f .result) (c .before .if1 .taken)) (a .stage) (a .depth) in
-    (c .refused-by .ensures ∙ l .0, l .1)
+    (c .refused-at .ensures ∙ l .0, l .1)
 
-refused-by-requires-2 : tie.Need-refused-by-requires-2
-refused-by-requires-2 c κs = search needs
+refused-at-requires-2 : tie.Need-refused-at-requires-2
+refused-at-requires-2 c κs = search needs
 
 returns-2 : tie.Need-returns-2
 returns-2 c =
     let f = c .before .before .before .is-flat in
     let a = c .before .before .before .before .before .before .args in
     let l = no-stage (now (a .flat)) (now (a .out)) (sym (f .ensures) ∙ not-false (f .result) (c .before .before .if1 .left)) (a .stage) (a .depth) (c .before .if2 .taken) in
-    (c .refused-by2 .ensures ∙ l .0, l .1)
+    (c .refused-at2 .ensures ∙ l .0, l .1)
 
-refused-by-requires-3 : tie.Need-refused-by-requires-3
-refused-by-requires-3 c κs = search needs
+refused-at-requires-3 : tie.Need-refused-at-requires-3
+refused-at-requires-3 c κs = search needs
 
 returns-3 : tie.Need-returns-3
 returns-3 c =
     let f = c .before .before .before .before .is-flat in
     let a = c .before .before .before .before .before .before .before .args in
     let l = no-depth (now (a .flat)) (now (a .out)) (sym (f .ensures) ∙ not-false (f .result) (c .before .before .before .if1 .left)) (a .stage) (a .depth) (c .before .if3 .taken) in
-    (c .refused-by3 .ensures ∙ l .0, l .1)
+    (c .refused-at3 .ensures ∙ l .0, l .1)
 
 token-of-requires : tie.Need-token-of-requires
 token-of-requires c κs =
@@ -74,11 +74,11 @@ agal-line-spec =
     tie.close
     (tie.spec
     is-flat-requires
-    refused-by-requires
+    refused-at-requires
     returns
-    refused-by-requires-2
+    refused-at-requires-2
     returns-2
-    refused-by-requires-3
+    refused-at-requires-3
     returns-3
     token-of-requires
     cast-line
