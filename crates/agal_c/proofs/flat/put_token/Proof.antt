@@ -9,7 +9,7 @@ use denote.Ref.{now}
 use borrow.Author.Needs.{needs}
 use Rattle.layout.specs.Layout.{wordBytes}
 use Rattle.layout.specs.Records.{tokenOf}
-use Rattle.agal_c.specs.Values.{destinationValues}
+use Rattle.agal_c.specs.Values.{destinationValues, operandValues}
 use Rattle.agal_c.specs.Flat.{destinationBytes, operandBytes, withBytes, flatBytes, flatOf}
 use Rattle.agal_c.specs.declared.values.Values.{Values}
 use Rattle.agal_c.proofs.flat.put_token.Statement.{statement}
@@ -48,7 +48,7 @@ unfolding flatOf tokenOf
 returns c =
     let a = c .before .before .before .before .before .before .before .before .before .before .before .before .before .before .before .before .before in
     let t = tokenOf (a .args .shape) (a .args .f) in
-    together _ (destinationValues (t .destination)) _ _ (now (a .args .out)) _ _ _ _ (a .pre)
+    together _ (destinationValues (t .destination)) (operandValues (t .source1)) (operandValues (t .source2)) (now (a .args .out)) _ _ _ _ (a .pre)
     (c .before .before .before .before .before .before .before .before .before .before .before .before .before .before .put-opcode .ensures)
     (c .before .before .before .before .before .before .before .before .before .before .put-destination .ensures)
     (c .before .before .before .before .before .before .put-operand .ensures)
