@@ -2,7 +2,7 @@
 ghost use mathlib.Core.Path.{_≡_};
 ghost use mathlib.Core.Bool.{_&&_};
 ghost use lib.Dec.{ltb};
-ghost use Rattle.bytecode.specs.Encode.{registerFits, destinationFits, sourceFits, samplerFits, operandFits, isEncodable};
+ghost use Rattle.bytecode.specs.Encode.{registerFits, destinationFits, samplerFits, operandFits, isEncodable};
 use layout::opcodes;
 use layout::opcodes::OperandShape;
 use layout::record::Destination;
