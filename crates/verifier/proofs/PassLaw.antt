@@ -15,7 +15,8 @@ use Rattle.components.specs.Access.{lacksAccess, access1Of, access2Of}
 use Rattle.components.specs.declared.written.Written.{Written}
 use Rattle.faults.specs.Faults.{ownFault}
 use Rattle.faults.specs.Profile.{profileOf}
-use Rattle.faults.proofs.PlainToken.{NoBranch, PlainToken}
+use Rattle.faults.proofs.PlainOpcodes.{NoBranch}
+use Rattle.faults.proofs.PlainToken.{PlainToken}
 use Rattle.verifier.specs.Pass.{passedUnless}
 use Rattle.verifier.specs.State.{flowOfCode, isMisplaced, metTop, partedTop, withCurrent, writtenBy, wroteTop}
 use Rattle.verifier.specs.Step.{stepped, followOf, takeOf, stepOf}

@@ -2,7 +2,7 @@
 -- Assumes nothing.
 use mathlib.Core.Path.{sym}
 use native.Mathlib.Omega.{arith}
-use Rattle.faults.proofs.PlainToken.{not-swizzled}
+use Rattle.faults.proofs.PlainOpcodes.{not-swizzled}
 use borrow.Author.Needs.{needs}
 use Rattle.faults.proofs.tokens.swizzle_wrong.Statement.{statement}
 use Rattle.faults.proofs.tokens.swizzle_wrong.Tie as tie
