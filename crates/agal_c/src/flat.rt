@@ -121,7 +121,7 @@ pub(crate) fn token_of(flat: &[u8]) -> Token
     requires { ⌜ 29 ≤ length (now flat) ⌝ }
     ensures { λ r. ⌜ r ≡ tokenOfFlat (now (flat .entry)) ⌝ }
 {
-    let opcode = word(flat[0], flat[1], flat[2], flat[3]);
+    let opcode = layout::word(flat[0], flat[1], flat[2], flat[3]);
     let d = values_at(flat, 4);
     let a = values_at(flat, 9);
     let b = values_at(flat, 19);
@@ -158,10 +158,4 @@ fn half(low: u8, high: u8) -> u16
     ensures { λ r. ⌜ r ≡ low + 256 * high ⌝ }
 {
     low as u16 + 256 * high as u16
-}
-
-fn word(a: u8, b: u8, c: u8, d: u8) -> u32
-    ensures { λ r. ⌜ r ≡ a + 256 * b + 65536 * c + 16777216 * d ⌝ }
-{
-    a as u32 + 256 * b as u32 + 65536 * c as u32 + 16777216 * d as u32
 }

@@ -16,7 +16,7 @@ use layout::record::Token;
 pub fn token(s: &[u8]) -> Token
     requires { ⌜ 30 ≤ length (now s) ⌝ }
 {
-    let opcode = word(s[1], s[2], s[3], s[4]);
+    let opcode = layout::word(s[1], s[2], s[3], s[4]);
     let number = half(s[6], s[7]);
     let destination = destination(s[5], number, s[8], s[9]);
     let source1 = operand(&s[10..20]);
@@ -27,11 +27,6 @@ pub fn token(s: &[u8]) -> Token
         source1,
         source2,
     }
-}
-
-// Four bytes as a number, the lowest first.
-pub fn word(a: u8, b: u8, c: u8, d: u8) -> u32 {
-    half(a, b) as u32 + 65536 * half(c, d) as u32
 }
 
 pub fn half(low: u8, high: u8) -> u16 {

@@ -11,7 +11,7 @@ pub fn checked(bytes: &[u8]) {
         print::text(b"no such case\n");
         return;
     }
-    let edition = flat::word(bytes[0], bytes[1], bytes[2], bytes[3]);
+    let edition = layout::word(bytes[0], bytes[1], bytes[2], bytes[3]);
     match verifier::check(edition, &bytes[4..]) {
         Checked::Refused(r) => print::refusal(r),
         Checked::Accepted(p) => {

@@ -49,13 +49,7 @@ fn word_at(bytes: &[u8], at: usize) -> u64
     requires { ⌜ at + 4 ≤ length (now bytes) ⌝ }
     ensures { λ r. ⌜ (r ≡ wordAt (now (bytes .entry)) at) × (r < 2 ^ 32) ⌝ }
 {
-    word(bytes[at], bytes[at + 1], bytes[at + 2], bytes[at + 3])
-}
-
-fn word(a: u8, b: u8, c: u8, d: u8) -> u64
-    ensures { λ r. ⌜ (r ≡ a + 256 * b + 65536 * c + 16777216 * d) × (r < 2 ^ 32) ⌝ }
-{
-    a as u64 + 256 * b as u64 + 65536 * c as u64 + 16777216 * d as u64
+    layout::word(bytes[at], bytes[at + 1], bytes[at + 2], bytes[at + 3]) as u64
 }
 
 // Writes the fields to the first 24 bytes.

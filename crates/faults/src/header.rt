@@ -1,6 +1,6 @@
 // Faults 1 to 8, of the program as a whole; number 0 where there is none.
 ghost use mathlib.Core.Path.{_≡_};
-ghost use Prim.Native.Nat.{_+_, _*_, _≤_};
+ghost use Prim.Native.Nat.{_≤_};
 ghost use lib.ListN.{length};
 ghost use Rattle.layout.specs.Layout.{wordAt};
 ghost use Rattle.faults.specs.Rules.{editionUnknown};
@@ -37,13 +37,7 @@ fn version(bytes: &[u8]) -> u32
     requires { ⌜ 7 ≤ length (now bytes) ⌝ }
     ensures { λ r. ⌜ r ≡ wordAt (now (bytes .entry)) 1 ⌝ }
 {
-    word(bytes[1], bytes[2], bytes[3], bytes[4])
-}
-
-fn word(a: u8, b: u8, c: u8, d: u8) -> u32
-    ensures { λ r. ⌜ r ≡ a + 256 * b + 65536 * c + 16777216 * d ⌝ }
-{
-    a as u32 + 256 * b as u32 + 65536 * c as u32 + 16777216 * d as u32
+    layout::word(bytes[1], bytes[2], bytes[3], bytes[4])
 }
 
 // 5 to 8.

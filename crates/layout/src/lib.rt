@@ -6,6 +6,7 @@ pub mod record;
 mod swizzles;
 mod unpack;
 
+pub use fields::word;
 pub use swizzles::components;
 pub use unpack::is_indexed;
 pub use unpack::signed_byte;

@@ -8,8 +8,8 @@ use Rattle.listing.specs.Text.{ascii}
 use Rattle.listing.specs.Decimal.{decimal}
 use Rattle.listing.specs.declared.first.Heading.{Heading}
 use Rattle.listing.specs.declared.first.Fault.{Fault}
-use Rattle.listing.specs.declared.first.First.{First}
-use Rattle.listing.specs.declared.first.First.the-variants.{Accepted, Refused, NoEdition, InputTooLong}
+use Rattle.listing.specs.declared.first.FirstLine.{FirstLine}
+use Rattle.listing.specs.declared.first.FirstLine.the-variants.{Accepted, Refused, NoEdition, InputTooLong}
 
 -- a word and a number after it
 abbrev pub numbered : String → ℕ → List ℕ
@@ -28,7 +28,7 @@ unfoldable pub faultLine : Fault → List ℕ
 faultLine f = numbered "refused " (f .number) ++ numbered " at " (f .token) ++ numbered " part " (f .part) ++ ascii "\n"
 
 -- "or one line: `input too long` ..; `no edition` ..; else a refusal"
-abbrev pub firstLine : First → List ℕ
+abbrev pub firstLine : FirstLine → List ℕ
 firstLine (Accepted h) = headingLine h
 firstLine (Refused f) = faultLine f
 firstLine NoEdition = ascii "no edition\n"

@@ -25,14 +25,14 @@ pub struct Fault {
     pub part: u8,
 }
 
-pub enum First {
+pub enum FirstLine {
     Accepted(Heading),
     Refused(Fault),
     NoEdition,
     InputTooLong,
 }
 
-pub fn first_line(first: First, out: &mut [u8]) -> Printed
+pub fn first_line(first: FirstLine, out: &mut [u8]) -> Printed
     ensures { λ r. ⌜ Prints (firstLine first) (now (out .entry)) (now (out .exit)) r × (length (firstLine first) ≤ 34) ⌝ }
 {
     // No first line is longer.
@@ -45,15 +45,15 @@ pub fn first_line(first: First, out: &mut [u8]) -> Printed
     printing::print(&whole[..n], out)
 }
 
-fn put_first_line(out: &mut [u8], first: First) -> usize
+fn put_first_line(out: &mut [u8], first: FirstLine) -> usize
     requires { ⌜ 34 ≤ length (now out) ⌝ }
     ensures { λ r. ⌜ Appends (firstLine first) 34 0 (now (out .entry)) (now (out .exit)) r ⌝ }
 {
     match first {
-        First::Accepted(heading) => put_heading(out, heading),
-        First::Refused(fault) => put_fault(out, fault),
-        First::NoEdition => text::put_bytes(out, 0, b"no edition\n"),
-        First::InputTooLong => text::put_bytes(out, 0, b"input too long\n"),
+        FirstLine::Accepted(heading) => put_heading(out, heading),
+        FirstLine::Refused(fault) => put_fault(out, fault),
+        FirstLine::NoEdition => text::put_bytes(out, 0, b"no edition\n"),
+        FirstLine::InputTooLong => text::put_bytes(out, 0, b"input too long\n"),
     }
 }
 

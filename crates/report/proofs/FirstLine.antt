@@ -10,10 +10,10 @@ use lib.Dec.{lit≤}
 use lib.ListN.{length, take, drop, length-drop}
 use lib.Seq.{take-length}
 use Rattle.listing.specs.First.{firstLine}
-use Rattle.listing.specs.declared.first.First.{First}
-use Rattle.listing.specs.declared.first.First.the-variants.{Accepted, Refused, NoEdition, InputTooLong}
+use Rattle.listing.specs.declared.first.FirstLine.{FirstLine}
+use Rattle.listing.specs.declared.first.FirstLine.the-variants.{Accepted, Refused, NoEdition, InputTooLong}
 use Rattle.listing.specs.declared.first.Heading.{Heading}
-use Rattle.listing.proofs.first.First.{the-type}
+use Rattle.listing.proofs.first.FirstLine.{the-type}
 use Rattle.faults.specs.Rules.{tokenCount}
 use Rattle.report.specs.Writers.{allLines, Listed, linesAfter, HasLines, Opens, HasRoom, Puts, Measured}
 use Rattle.report.proofs.Room.{front, behind, in-turn, add-lengths}
@@ -23,21 +23,21 @@ pub after-digit : (input : List ℕ) → take (length input - 1) (drop 1 input) 
 after-digit input = ap (λ k. take k (drop 1 input)) (sym (length-drop 1 input)) ∙ take-length (drop 1 input)
 
 -- so what is known of them is known of what is cut out
-pub cut : {text : List ℕ} {first : First} (input : List ℕ) → Opens text (drop 1 input) first → Opens text (take (length input - 1) (drop 1 input)) first
+pub cut : {text : List ℕ} {first : FirstLine} (input : List ℕ) → Opens text (drop 1 input) first → Opens text (take (length input - 1) (drop 1 input)) first
 cut {text} {first} input o = subst (λ b. Opens text b first) (sym (after-digit input)) o
 
 -- a first line that is not an accepted program's, by the code's numbers for the four kinds
-abbrev IsAlone : First → Type 0
+abbrev IsAlone : FirstLine → Type 0
 IsAlone f = OneOf (1 ∷ 2 ∷ 3 ∷ []) (tagOf the-type f)
 
 -- no line comes after it
-none-after : (f : First) (bytes : List ℕ) → IsAlone f → linesAfter f bytes ≡ []
+none-after : (f : FirstLine) (bytes : List ℕ) → IsAlone f → linesAfter f bytes ≡ []
 none-after (Accepted h) bytes k = absurd (miss (1 ∷ 2 ∷ 3 ∷ []) 0 tt k)
 none-after (Refused f) bytes k = refl
 none-after NoEdition bytes k = refl
 none-after InputTooLong bytes k = refl
 
-module _ {text bytes : List ℕ} {first : First} (o : Opens text bytes first) where
+module _ {text bytes : List ℕ} {first : FirstLine} (o : Opens text bytes first) where
   -- where there is room for the text, there is room for its first line
   pub first-room : {size : ℕ} → HasRoom text 262178 0 size → HasRoom (firstLine first) 34 0 size
   first-room {size} r = front (firstLine first) (linesAfter first bytes) 34 (lit≤ tt) (subst (λ t. HasRoom t 262178 0 size) (o .whole) r)
@@ -70,5 +70,5 @@ module _ {text bytes : List ℕ} {first : First} (o : Opens text bytes first) wh
     both-measured a b = rw two-parts (add-lengths most a b)
 
 -- bytes that hold a program stand after a digit
-pub has-digit : {text : List ℕ} {first : First} {h : Heading} (input : List ℕ) → Opens text (drop 1 input) first → first ≡ Accepted h → 1 ≤ length input
+pub has-digit : {text : List ℕ} {first : FirstLine} {h : Heading} (input : List ℕ) → Opens text (drop 1 input) first → first ≡ Accepted h → 1 ≤ length input
 has-digit input o e = omega (arith, listed o e .header, length-drop 1 input)

@@ -14,8 +14,8 @@ use Rattle.laws.proofs.Every.{left, right}
 use Rattle.listing.specs.First.{headingLine, firstLine}
 use Rattle.listing.specs.Printing.{Prints}
 use Rattle.listing.specs.declared.answers.Printed.{Printed}
-use Rattle.listing.specs.declared.first.First.{First}
-use Rattle.listing.specs.declared.first.First.the-variants.{Accepted as AcceptedLine, Refused as RefusedLine, NoEdition, InputTooLong}
+use Rattle.listing.specs.declared.first.FirstLine.{FirstLine}
+use Rattle.listing.specs.declared.first.FirstLine.the-variants.{Accepted as AcceptedLine, Refused as RefusedLine, NoEdition, InputTooLong}
 use Rattle.faults.specs.Rules.{tokenCount}
 use Rattle.verifier.specs.Verdict.{verdict}
 use Rattle.verifier.specs.declared.answers.Program.{Program}
@@ -28,7 +28,7 @@ use Rattle.report.proofs.Accepted.{lists}
 use Rattle.report.proofs.FirstLine.{after-digit}
 
 -- no lines after the first one
-alone : {text bytes : List ℕ} (f : First) → text ≡ firstLine f → linesAfter f bytes ≡ [] → HasLines f bytes → Opens text bytes f
+alone : {text bytes : List ℕ} (f : FirstLine) → text ≡ firstLine f → linesAfter f bytes ≡ [] → HasLines f bytes → Opens text bytes f
 alone f e none lines = record { whole = e ∙ sym (append-nil (firstLine f)) ∙ ap (λ l. firstLine f ++ l) (sym none); lines = lines }
 
 -- ---- what the check answers
@@ -80,7 +80,7 @@ module _ (input : List ℕ) where
       unfolding textOf
       other-byte e = alone (RefusedLine (faultOf (refusal 1 0 0))) (rw (le-ltb 49160 (length input) h, ne-eqb (length input) 0 n, e)) refl tt
 
-      pub with-edition : (edition : ℕ) → edition ≡ editionOf (getD input 0 0) → isEdition (getD input 0 0) ≡ true → {first : First}
+      pub with-edition : (edition : ℕ) → edition ≡ editionOf (getD input 0 0) → isEdition (getD input 0 0) ≡ true → {first : FirstLine}
           → Opens (answerText edition (take (length input - 1) (drop 1 input)) (verdict edition (take (length input - 1) (drop 1 input)))) (take (length input - 1) (drop 1 input)) first
           → Opens (textOf input) (drop 1 input) first
       unfolding textOf

@@ -9,7 +9,7 @@ use Rattle.bytecode.specs.Decode.{refusal}
 use Rattle.bytecode.specs.declared.answers.Refusal.{Refusal}
 use Rattle.listing.specs.First.{headingLine, faultLine, firstLine}
 use Rattle.listing.specs.declared.first.Fault.{Fault}
-use Rattle.listing.specs.declared.first.First.the-variants.{NoEdition, InputTooLong}
+use Rattle.listing.specs.declared.first.FirstLine.the-variants.{NoEdition, InputTooLong}
 use Rattle.verifier.specs.Verdict.{verdict}
 use Rattle.verifier.specs.declared.answers.Checked.{Checked}
 use Rattle.verifier.specs.declared.answers.Checked.the-variants.{Accepted, Refused}

@@ -6,8 +6,8 @@ use mathlib.Core.Path.{_≡_}
 use lib.ListN.{length}
 use Rattle.listing.specs.First.{firstLine}
 use Rattle.listing.specs.Writers.{Appends}
-use Rattle.listing.specs.declared.first.First.{First}
-use Rattle.listing.specs.declared.first.First.the-variants.{Accepted, Refused, NoEdition, InputTooLong}
+use Rattle.listing.specs.declared.first.FirstLine.{FirstLine}
+use Rattle.listing.specs.declared.first.FirstLine.the-variants.{Accepted, Refused, NoEdition, InputTooLong}
 use Rattle.faults.specs.Rules.{tokenCount}
 use Rattle.report.specs.Lines.{linesFrom, Listable}
 
@@ -22,21 +22,21 @@ pub record Listed (stage : ℕ) (bytes : List ℕ) : Type 0 where
   pub lines : Listable stage bytes 0 (tokenCount bytes) 0
 
 -- the lines after the first one
-abbrev pub linesAfter : First → List ℕ → List ℕ
+abbrev pub linesAfter : FirstLine → List ℕ → List ℕ
 linesAfter (Accepted h) bytes = allLines (h .stage) bytes
 linesAfter (Refused f) bytes = []
 linesAfter NoEdition bytes = []
 linesAfter InputTooLong bytes = []
 
 -- what is known of the bytes for them
-abbrev pub HasLines : First → List ℕ → Type 0
+abbrev pub HasLines : FirstLine → List ℕ → Type 0
 HasLines (Accepted h) bytes = Listed (h .stage) bytes
 HasLines (Refused f) bytes = Unit {0}
 HasLines NoEdition bytes = Unit {0}
 HasLines InputTooLong bytes = Unit {0}
 
 -- A text opens with this first line, and the token lines of a program's bytes follow where that is accepted.
-pub record Opens (text bytes : List ℕ) (first : First) : Type 0 where
+pub record Opens (text bytes : List ℕ) (first : FirstLine) : Type 0 where
   pub whole : text ≡ firstLine first ++ linesAfter first bytes
   pub lines : HasLines first bytes
 

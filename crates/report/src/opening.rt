@@ -7,18 +7,18 @@ ghost use Rattle.report.specs.Text.{answerText, faultOf, isEdition as is
 ghost use Rattle.report.specs.Writers.{Opens};
 use bytecode::answers::Refusal;
 use listing::first::Fault;
-use listing::first::First;
+use listing::first::FirstLine;
 use listing::first::Heading;
 use verifier::answers::Checked;
 
-pub(crate) fn first_of(input: &[u8]) -> First
+pub(crate) fn first_of(input: &[u8]) -> FirstLine
     ensures { λ r. ⌜ Opens (textOf (now (input .entry))) (drop 1 (now (input .entry))) r ⌝ }
 {
     if 49160 < input.len() {
-        return First::InputTooLong;
+        return FirstLine::InputTooLong;
     }
     if input.len() == 0 {
-        return First::NoEdition;
+        return FirstLine::NoEdition;
     }
     let digit = input[0];
     if !is_edition(digit) {
@@ -27,7 +27,7 @@ pub(crate) fn first_of(input: &[u8]) -> First
             token: 0,
             part: 0,
         };
-        return First::Refused(fault);
+        return FirstLine::Refused(fault);
     }
     answer_of(edition_of(digit), &input[1..])
 }
@@ -47,7 +47,7 @@ fn edition_of(digit: u8) -> u16
 }
 
 // What the check answers. As many bytes hold at most 2048 tokens.
-fn answer_of(edition: u16, bytes: &[u8]) -> First
+fn answer_of(edition: u16, bytes: &[u8]) -> FirstLine
     requires { ⌜ length (now bytes) ≤ 49159 ⌝ }
     ensures { λ r. ⌜ Opens (answerText edition (now (bytes .entry)) (verdict edition (now (bytes .entry)))) (now (bytes .entry)) r ⌝ }
 {
@@ -58,9 +58,9 @@ fn answer_of(edition: u16, bytes: &[u8]) -> First
                 stage: program.stage,
                 tokens: program.tokens as u16,
             };
-            First::Accepted(heading)
+            FirstLine::Accepted(heading)
         }
-        Checked::Refused(r) => First::Refused(fault_of(r)),
+        Checked::Refused(r) => FirstLine::Refused(fault_of(r)),
     }
 }
 

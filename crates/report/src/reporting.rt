@@ -8,7 +8,7 @@ use crate::opening;
 use crate::tokens;
 use bytecode::answers::Refusal;
 use listing::answers::Printed;
-use listing::first::First;
+use listing::first::FirstLine;
 
 // From an edition digit and a program's bytes. A buffer that is too short for the whole text keeps every byte.
 pub fn report(input: &[u8], out: &mut [u8]) -> Printed
@@ -28,7 +28,7 @@ pub fn report(input: &[u8], out: &mut [u8]) -> Printed
 
 // Whether so many bytes are room for the text. Its length is known once it is written, so it is measured first, but not where there is room
 // for any text: for a first line, and 2048 token lines.
-fn fits(room: usize, first: First, input: &[u8]) -> bool
+fn fits(room: usize, first: FirstLine, input: &[u8]) -> bool
     requires { ⌜ Opens (textOf (now input)) (drop 1 (now input)) first ⌝ }
     ensures { λ r. ⌜ Fits (textOf (now (input .entry))) room r ⌝ }
 {
@@ -38,18 +38,18 @@ fn fits(room: usize, first: First, input: &[u8]) -> bool
     text_length(first, input) <= room
 }
 
-fn text_length(first: First, input: &[u8]) -> usize
+fn text_length(first: FirstLine, input: &[u8]) -> usize
     requires { ⌜ Opens (textOf (now input)) (drop 1 (now input)) first ⌝ }
     ensures { λ r. ⌜ Measured (textOf (now (input .entry))) 262178 r ⌝ }
 {
     let n = first_length(first);
     match first {
-        First::Accepted(heading) => n + tokens::tokens_length(heading.stage, &input[1..]),
+        FirstLine::Accepted(heading) => n + tokens::tokens_length(heading.stage, &input[1..]),
         _ => n,
     }
 }
 
-fn first_length(first: First) -> usize
+fn first_length(first: FirstLine) -> usize
     ensures { λ r. ⌜ Measured (firstLine first) 34 r ⌝ }
 {
     let mut line = [0u8; 34];
@@ -57,19 +57,19 @@ fn first_length(first: First) -> usize
 }
 
 // The first line, and the token lines of a program that is accepted.
-fn put_text(out: &mut [u8], first: First, input: &[u8]) -> usize
+fn put_text(out: &mut [u8], first: FirstLine, input: &[u8]) -> usize
     requires { ⌜ Opens (textOf (now input)) (drop 1 (now input)) first ⌝ }
     requires { ⌜ HasRoom (textOf (now input)) 262178 0 (length (now out)) ⌝ }
     ensures { λ r. ⌜ Puts (textOf (now (input .entry))) 262178 0 (now (out .entry)) (now (out .exit)) r ⌝ }
 {
     let p = put_first(out, first);
     match first {
-        First::Accepted(heading) => tokens::put_tokens(out, p, heading.stage, &input[1..]),
+        FirstLine::Accepted(heading) => tokens::put_tokens(out, p, heading.stage, &input[1..]),
         _ => p,
     }
 }
 
-fn put_first(out: &mut [u8], first: First) -> usize
+fn put_first(out: &mut [u8], first: FirstLine) -> usize
     requires { ⌜ HasRoom (firstLine first) 34 0 (length (now out)) ⌝ }
     ensures { λ r. ⌜ Puts (firstLine first) 34 0 (now (out .entry)) (now (out .exit)) r ⌝ }
 {
