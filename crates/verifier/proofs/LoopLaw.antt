@@ -16,21 +16,24 @@ use Rattle.paths.specs.Faults as faults
 use Rattle.paths.specs.Check.{start, ending, checkFrom, verdictOf}
 use Rattle.faults.specs.Rules.{stageOf, tokenCount}
 use Rattle.faults.specs.Profile.{profileOf}
-use Rattle.bytecode.specs.Decode.{noRefusal}
+use Rattle.bytecode.specs.Decode.{noRefusal, isClean, tokenFault}
 use Rattle.bytecode.specs.Fields.{fieldsOf, fieldsIn}
+use Rattle.bytecode.specs.declared.answers.Refusal.{Refusal}
+use Rattle.layout.specs.Opcodes.{shapeOf}
+use Rattle.faults.specs.Faults.{undecodedFault}
 use Rattle.components.specs.declared.written.Written.{Written}
 use Rattle.layout.specs.declared.fields.Fields.{Fields}
 use Rattle.faults.specs.Order.{tokenAt, tokensFrom, tokensOf}
 use Rattle.verifier.specs.State.{noneWritten, startState, topOf, withTop, withCurrent}
 use Rattle.verifier.specs.Step.{stepped, stepOf}
-use Rattle.verifier.specs.Verdict.{answerOf}
+use Rattle.verifier.specs.Verdict.{answerOf, Settles}
 use Rattle.verifier.specs.Finish.{finishOf}
 use Rattle.faults.specs.declared.profile.Profile.{Profile}
 use Rattle.verifier.specs.declared.state.State.{State}
 use Rattle.verifier.specs.declared.state.Top.{Top}
 use Rattle.verifier.specs.declared.step.Stepped.{Stepped}
 use Rattle.verifier.specs.declared.answers.Checked.the-variants.{Refused}
-use Rattle.verifier.proofs.Abstract.{abstractOf, branchesIn, Valid, own-top, inside}
+use Rattle.verifier.proofs.Abstract.{abstractOf, branchesIn, Valid, valid-start, own-top, inside}
 use Rattle.verifier.proofs.StepLaw.{after}
 use Rattle.verifier.proofs.TokenLaw.{steps}
 
@@ -122,6 +125,18 @@ module _ (edition : ℕ) (bytes : List ℕ) where
 
       pub pass-goes-on : answerFrom st n (left bytes n) ≡ answerFrom next (n + 1) (left bytes (n + 1))
       pass-goes-on = goes-on (profileOf edition (stageOf bytes)) refl f read (topOf st) refl (stepped noRefusal (withCurrent (topOf st) w)) (sym passed) next put refl
+
+  -- ---- a first token that decode refuses
+
+  pub opens-faulty : 7 ≤ length bytes → 0 < tokenCount bytes → (f : Fields) → f ≡ fieldsOf (tokenAt bytes 0) → isClean (shapeOf (f .opcode)) f ≡ false
+      → (r : Refusal) → r ≡ undecodedFault (profileOf edition (stageOf bytes)) 0 (tokenFault (shapeOf (f .opcode)) f) (f .opcode) → Settles edition bytes r
+  unfolding stepOf
+  opens-faulty header l f read unclean r made z =
+      sym (stops header startState valid-start 0 l (profileOf edition (stageOf bytes)) refl f read (topOf startState) refl (stepped r (topOf startState)) refuses z)
+      ∙ ap (answerOf bytes) begins
+    where
+      refuses : stepped r (topOf startState) ≡ stepOf (topOf startState) (profileOf edition (stageOf bytes)) 0 f
+      refuses = rw unclean (ap (λ x. stepped x (topOf startState)) made)
 
   -- ---- after the last token
 

@@ -3,6 +3,7 @@
 use Prim.Native.Nat.{ℕ}
 use mathlib.Core.List.{List}
 use mathlib.Core.Option.{Option, none, some}
+use mathlib.Core.Path.{_≡_}
 use Rattle.bytecode.specs.Decode.{refusal, noRefusal}
 use Rattle.bytecode.specs.declared.answers.Refusal.{Refusal}
 use Rattle.paths.specs.Paths.{TokenFault}
@@ -21,6 +22,10 @@ program stage tokens = record { stage = stage; tokens = tokens }
 abbrev pub answerOf : List ℕ → Answer → Checked
 answerOf bytes accepted = Accepted (program (stageOf bytes) (tokenCount bytes))
 answerOf bytes (refused number token part) = Refused (refusal number token part)
+
+-- a refusal with a number is the answer that the tokens give
+abbrev pub Settles : ℕ → List ℕ → Refusal → Type 0
+Settles edition bytes r = (r .number ≡ 0 → ⊥) → Refused r ≡ answerOf bytes (verdictOf (tokensOf edition bytes))
 
 -- a fault of the header, or else what the tokens give
 abbrev pub afterHeader : Option TokenFault → Checked → Checked

@@ -1,13 +1,22 @@
 -- `check` meets its contract.
 -- Assumes nothing.
-use mathlib.Core.Path.{_∙_, sym, ap}
+use Prim.Native.Nat.{ℕ}
+use mathlib.Core.List.{List}
+use mathlib.Core.Path.{_≡_, _∙_, sym, ap}
 use borrow.Author.Needs.{needs}
 use denote.Ref.{now}
+use Rattle.bytecode.specs.declared.answers.Refusal.{Refusal}
+use Rattle.faults.specs.Header.{headerFault}
+use Rattle.verifier.specs.Exact.{HeaderRight}
 use Rattle.verifier.specs.declared.answers.Checked.the-variants.{Refused}
 use Rattle.verifier.proofs.HeaderLaw.{header-refuses, header-right, tokens-answer, has-header}
 use Rattle.verifier.proofs.ExactCheck.{checks}
 use Rattle.verifier.proofs.checking.check.Statement.{statement}
 use Rattle.verifier.proofs.checking.check.Tie as tie
+
+-- the header has no fault, where the code found none
+no-header-fault : (edition : ℕ) (bytes : List ℕ) (fault : Refusal) → fault ≡ headerFault edition bytes → fault .number ≡ 0 → HeaderRight edition bytes
+no-header-fault edition bytes fault made z = header-right edition bytes (sym (ap (λ f. f .number) made) ∙ z)
 
 header-fault-requires : tie.Need-header-fault-requires
 header-fault-requires c κs = search needs
@@ -20,22 +29,31 @@ returns c =
     let made = c .before .before .header-fault .ensures in
     checks edition bytes _ (ap Refused made ∙ header-refuses edition bytes (λ z. c .if1 .taken (ap (λ f. f .number) made ∙ z)))
 
-check-tokens-requires : tie.Need-check-tokens-requires
-check-tokens-requires c κs =
+opening-fault-requires : tie.Need-opening-fault-requires
+opening-fault-requires c κs =
     let at-start = c .before .before .before .before in
-    let edition = at-start .args .edition in
-    let bytes = now (at-start .args .bytes) in
-    let made = c .before .before .header-fault .ensures in
-    has-header edition bytes (header-right edition bytes (sym (ap (λ f. f .number) made) ∙ c .if1 .left))
+    has-header (at-start .args .edition) (now (at-start .args .bytes)) (no-header-fault _ _ _ (c .before .before .header-fault .ensures) (c .if1 .left))
 
 returns-2 : tie.Need-returns-2
 returns-2 c =
-    let at-start = c .before .before .before .before .before in
+    let at-start = c .before .before .before .before .before .before .before in
     let edition = at-start .args .edition in
     let bytes = now (at-start .args .bytes) in
-    let made = c .before .before .before .header-fault .ensures in
-    let right = header-right edition bytes (sym (ap (λ f. f .number) made) ∙ c .before .if1 .left) in
+    let right = no-header-fault edition bytes _ (c .before .before .before .before .before .header-fault .ensures) (c .before .before .before .if1 .left) in
+    checks edition bytes _ (c .before .before .opening-fault .ensures (c .if2 .taken) ∙ sym (tokens-answer edition bytes right))
+
+check-tokens-requires : tie.Need-check-tokens-requires
+check-tokens-requires c κs =
+    let at-start = c .before .before .before .before .before .before .before in
+    has-header (at-start .args .edition) (now (at-start .args .bytes)) (no-header-fault _ _ _ (c .before .before .before .before .before .header-fault .ensures) (c .before .before .before .if1 .left))
+
+returns-3 : tie.Need-returns-3
+returns-3 c =
+    let at-start = c .before .before .before .before .before .before .before .before in
+    let edition = at-start .args .edition in
+    let bytes = now (at-start .args .bytes) in
+    let right = no-header-fault edition bytes _ (c .before .before .before .before .before .before .header-fault .ensures) (c .before .before .before .before .if1 .left) in
     checks edition bytes _ (c .check-tokens .ensures ∙ sym (tokens-answer edition bytes right))
 
 pub check-spec : {M : Type 1} → statement M
-check-spec = tie.close (tie.spec header-fault-requires returns check-tokens-requires returns-2)
+check-spec = tie.close (tie.spec header-fault-requires returns opening-fault-requires returns-2 check-tokens-requires returns-3)
