@@ -8,19 +8,21 @@ use native.Mathlib.Nat.{div-one}
 use native.Mathlib.Omega.{arith}
 use lib.Bits.{bitOr}
 use lib.Dec.{eqb}
-use borrow.Author.Tests.{eqb-true, eq-eqb, ne-eqb}
+use borrow.Author.Tests.{eqb-true, eq-eqb}
 use Rattle.laws.specs.Tests.{every}
 use Rattle.laws.proofs.Every.{below, left}
 use Rattle.layout.specs.Opcodes.{isIn, kil, tex}
+use Rattle.layout.specs.Records.{isIndexed, directOf, indexedOf, sourceOf}
 use Rattle.layout.specs.declared.record.DirectSource.{DirectSource}
 use Rattle.layout.specs.declared.record.Operand.{Operand}
 use Rattle.layout.specs.declared.record.Operand.the-variants.{Unused as NoOperand, Direct, Indexed, Sampler as Sampled}
 use Rattle.layout.specs.declared.record.Token.{Token}
+use Rattle.layout.proofs.SourceKinds.{indexed-source, direct-source}
 use Rattle.paths.specs.Check.{lacks}
 use Rattle.components.specs.Reads.{keep, those, firstFew, bitOf, maskComponents, selector, named, m33, m34, m44}
 use Rattle.components.specs.Reads.{byThree1, byThree2, byFour1, byFour2, selectors1, selectors2, components2, rowCount2}
 use Rattle.components.specs.Reads.{rowsOf, readsThrough, maskOf, dimensionOf, reads1, reads2, temporaries}
-use Rattle.components.specs.Access.{Access, accessed, lacksAccess, lacksSome, directAccess, namedSet, selectorSet1, selectorSet2, readSet2}
+use Rattle.components.specs.Access.{Access, accessed, lacksAccess, lacksSome, mayLack, directAccess, indexAccess, namedSet, selectorSet1, selectorSet2, readSet2}
 use Rattle.components.specs.Access.{accessThrough, components1Of, components2Of, access1Of, access2Of}
 use Rattle.components.specs.Written.{componentSet, lacksOf}
 use Rattle.components.specs.declared.written.Written.{Written}
@@ -163,9 +165,6 @@ lacks-accessed s a = go (eqb (a .kind) 2) refl
 pub temporary : (s : Written) (a : Access) → a .kind ≡ 2 → lacksOf s (a .register) (a .rows) (a .components) ≡ lacksAccess s a
 temporary s a e = rw (eq-eqb (a .kind) 2 e)
 
-pub not-temporary : (s : Written) (a : Access) → (a .kind ≡ 2 → ⊥) → false ≡ lacksAccess s a
-not-temporary s a e = rw (ne-eqb (a .kind) 2 e)
-
 -- where all four components are written, none that is read is missing
 pub none-missing : (s : Written) (rows : ℕ) (components : ℕ → ℕ) (d : DirectSource) → lacksSome s rows d ≡ false
     → false ≡ lacksAccess s (directAccess rows components d)
@@ -180,6 +179,17 @@ none-missing s rows components d e = go (eqb (d .kind) 2) e
 pub lacking : (s : Written) (rows : ℕ) (d : DirectSource) → lacksSome s rows d ≡ true → d .kind ≡ 2
 unfolding lacksSome
 lacking s rows d e = eqb-true (d .kind) 2 (left (eqb (d .kind) 2) (lacksOf s (d .number) rows 15) e)
+
+-- what a source does not lack, it does not read unwritten
+pub none-lacking : (s : Written) (rows : ℕ) (components : ℕ → ℕ) (field : ℕ) → mayLack s rows field ≡ false
+    → lacksAccess s (accessThrough rows components (sourceOf field)) ≡ false
+unfolding mayLack
+none-lacking s rows components field e = go (isIndexed field) refl e
+  where
+    go : (b : Bool) → isIndexed field ≡ b → cond b (lacksAccess s (indexAccess (indexedOf field))) (lacksSome s rows (directOf field)) ≡ false
+        → lacksAccess s (accessThrough rows components (sourceOf field)) ≡ false
+    go true i l = ap (λ o. lacksAccess s (accessThrough rows components o)) (indexed-source field i) ∙ l
+    go false i l = ap (λ o. lacksAccess s (accessThrough rows components o)) (direct-source field i) ∙ sym (none-missing s rows components (directOf field) l)
 
 -- so the code's test of an access is the check's test of what a token reads
 pub lacks-reads1 : (s : Written) (t : Token) → lacks (componentSet s) (temporaries (reads1 t)) ≡ lacksAccess s (access1Of t)

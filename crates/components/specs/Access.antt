@@ -6,7 +6,7 @@ use mathlib.Core.List.{List, [], _∷_}
 use lib.Bits.{bitOr}
 use lib.Dec.{ltb, eqb}
 use Rattle.layout.specs.Opcodes.{isIn, kil, tex}
-use Rattle.layout.specs.Records.{registerOf, directOf, samplerOf}
+use Rattle.layout.specs.Records.{registerOf, directOf, isIndexed, indexedOf, samplerOf}
 use Rattle.layout.specs.declared.fields.Fields.{Fields}
 use Rattle.layout.specs.declared.record.DirectSource.{DirectSource}
 use Rattle.layout.specs.declared.record.IndexedSource.{IndexedSource}
@@ -123,3 +123,11 @@ matrixUnwritten s f =
 -- and through the coordinates of tex
 unfoldable pub texUnwritten : Written → Fields → Bool
 texUnwritten s f = lacksAccess s (selectedAccess (coordinateSet (samplerOf (f .source2) .dimension)) (directOf (f .source1)))
+
+-- a source, indexed or direct, reads what is not written, or might: all four components of a direct one's rows are asked for
+unfoldable pub mayLack : Written → ℕ → ℕ → Bool
+mayLack s rows field = cond (isIndexed field) (lacksAccess s (indexAccess (indexedOf field))) (lacksSome s rows (directOf field))
+
+-- and through two such sources
+unfoldable pub indexedUnwritten : Written → Fields → Bool
+indexedUnwritten s f = mayLack s 1 (f .source1) || mayLack s (rowCount2 (f .opcode)) (f .source2)

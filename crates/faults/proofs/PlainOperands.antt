@@ -1,35 +1,36 @@
 -- Plain operands, as the tests tell them, break no rule.
 -- Assumes nothing.
 use Prim.Native.Nat.{ℕ, _≤_, _+_, _-_, _<_}
-use mathlib.Core.Bool.{Bool, true, false, not, cond, _&&_, true≢false}
+use mathlib.Core.Bool.{Bool, true, false, not, cond, _&&_, true≢false, false≢true}
 use mathlib.Core.Path.{_≡_, refl, _∙_, ap, sym, subst}
 use native.Mathlib.Omega.{arith}
-use lib.Dec.{ltb}
+use lib.Dec.{eqb, ltb, leb}
 use borrow.Author.Tests.{eq-eqb, lt-leb, le-ltb, ltb-true, leb-true, not-true}
 use Rattle.laws.proofs.Every.{left, right}
 use Rattle.layout.specs.Layout as layout
 use Rattle.layout.specs.Layout.{valueOf, isStray, destinationBits, operandBits}
-use Rattle.layout.specs.Records.{isIndexed, directOf, sourceOf, operandOf, destinationOf}
+use Rattle.layout.specs.Records.{isIndexed, directOf, indexedOf, sourceOf, operandOf, destinationOf}
 use Rattle.layout.specs.declared.opcodes.OperandShape.{OperandShape}
 use Rattle.layout.specs.declared.opcodes.OperandShape.the-variants.{Unused, Source, Sampler}
 use Rattle.layout.specs.declared.record.Operand.{Operand}
-use Rattle.layout.proofs.SourceKinds.{direct-source}
+use Rattle.layout.proofs.SourceKinds.{direct-source, indexed-source}
 use Rattle.layout.proofs.Stray.{wider, value-within}
-use Rattle.components.specs.Access.{lacksAccess, directAccess, accessThrough}
+use Rattle.components.specs.Access.{lacksAccess, directAccess, accessThrough, mayLack}
 use Rattle.components.specs.declared.written.Written.{Written}
 use Rattle.components.specs.Reads.{dimensionOf}
 use Rattle.components.proofs.AccessFields.{source-dimension}
+use Rattle.components.proofs.AccessLaws.{none-lacking}
 use Rattle.registers.specs.Counts.{countOf}
 use Rattle.registers.specs.Uses.{isReadable, isWritable}
-use Rattle.faults.specs.Rules.{destinationWrong, maskWrong, directWrong}
+use Rattle.faults.specs.Rules.{destinationWrong, maskWrong, directWrong, indexedWrong}
 use Rattle.faults.specs.Profile.{profileOf, countIn}
 use Rattle.faults.specs.Order.{firstFault, sourceRules}
 use Rattle.faults.specs.Faults.{numberOf}
-use Rattle.faults.specs.Plain.{countAt, isSource, plainSourceBits, isPlainDestination, isPlainSource}
+use Rattle.faults.specs.Plain.{countAt, isSource, plainSourceBits, isPlainDestination, isPlainSource, isRightlyIndexed, isPlainEither}
 use Rattle.faults.specs.declared.profile.Profile.{Profile}
 use Rattle.faults.proofs.Counts.{counts-are}
 use Rattle.faults.proofs.PlainOpcodes.{isSampler}
-use Rattle.faults.proofs.UsableCounts.{usableIn, ifUsed, usable-counts}
+use Rattle.faults.proofs.UsableCounts.{usableIn, ifUsed, isIndex, readable-counts, writable-counts, indexing-counts}
 
 -- no rule of an operand of so many rows, where 18 is not broken
 abbrev NoSourceFault : Profile → ℕ → ℕ → Operand → Type 0
@@ -37,10 +38,24 @@ NoSourceFault profile rows field o =
     (swizzled : ℕ → Bool) → swizzled (directOf field .swizzle) ≡ false
     → numberOf (firstFault (sourceRules (countIn profile) (profile .stage) rows swizzled 0 o)) ≡ 0
 
-plain-source : (p : Profile) (rows field : ℕ) → isIndexed field ≡ false → directWrong (countIn p) (p .stage) rows (directOf field) ≡ false
-    → NoSourceFault p rows field (sourceOf field)
-plain-source p rows field i d swizzled h =
-    ap (λ o. numberOf (firstFault (sourceRules (countIn p) (p .stage) rows swizzled 0 o))) (direct-source field i) ∙ simp (d, h)
+module _ (p : Profile) (rows field : ℕ) where
+  right-direct : isIndexed field ≡ false → directWrong (countIn p) (p .stage) rows (directOf field) ≡ false → NoSourceFault p rows field (sourceOf field)
+  right-direct i d swizzled h = ap (λ o. numberOf (firstFault (sourceRules (countIn p) (p .stage) rows swizzled 0 o))) (direct-source field i) ∙ simp (d, h)
+
+  right-indexed : isIndexed field ≡ true → indexedWrong (countIn p) (p .stage) rows (indexedOf field) ≡ false → NoSourceFault p rows field (sourceOf field)
+  right-indexed i d swizzled h = ap (λ o. numberOf (firstFault (sourceRules (countIn p) (p .stage) rows swizzled 0 o))) (indexed-source field i) ∙ simp (d, h)
+
+-- a test of a set, for the components that a swizzle gives
+abbrev pub Asked : Type 0
+Asked = Written → (ℕ → ℕ) → Bool
+
+-- of a direct source for these components
+abbrev pub asDirect : ℕ → ℕ → Asked
+asDirect rows field s components = lacksAccess s (directAccess rows components (directOf field))
+
+-- of an indexed source, or of a direct one for all four
+abbrev pub asEither : ℕ → ℕ → Asked
+asEither rows field s components = mayLack s rows field
 
 -- a number below a count that is 0 where the kind is not used
 below-used : (b : Bool) (n count : ℕ) → n < cond b count 0 → (b ≡ true) × (n < count)
@@ -64,10 +79,11 @@ module _ (edition stage : ℕ) where
     pub right : destinationWrong (countIn profile) stage (destinationOf true field) ≡ false
     pub mask : maskWrong opcode (destinationOf true field) ≡ false
 
-  pub record PlainSource (shape : OperandShape) (rows field : ℕ) : Type 0 where
+  -- `asked` is the test that tells whether it reads what is not written
+  pub record PlainSource (asked : Asked) (shape : OperandShape) (rows field : ℕ) : Type 0 where
     pub defined : isStray (operandBits shape) field ≡ false
     pub right : NoSourceFault profile rows field (operandOf shape field)
-    pub written : (s : Written) (components : ℕ → ℕ) → lacksAccess s (directAccess rows components (directOf field)) ≡ false → lacksAccess s (accessThrough rows components (operandOf shape field)) ≡ false
+    pub written : (s : Written) (components : ℕ → ℕ) → asked s components ≡ false → lacksAccess s (accessThrough rows components (operandOf shape field)) ≡ false
     pub dimension : dimensionOf (operandOf shape field) ≡ 0
 
   pub plain-destination : (opcode field : ℕ) → isPlainDestination (usableIn edition stage .writable) opcode field ≡ true → PlainDestination opcode field
@@ -81,7 +97,7 @@ module _ (edition stage : ℕ) where
       let both = left (kept && low) (not wrong) e in
       let stray = not-true (isStray 0x070fffff field) (left kept low both) in
       let small = value-within layout.maskedKind 0x070fffff field stray in
-      let (u, l) = counted isWritable number (countAt (usableIn edition stage .writable) kind) kind (usable-counts edition stage kind (omega (arith, small)) .1) (ltb-true number _ (right kept low both)) in
+      let (u, l) = counted isWritable number (countAt (usableIn edition stage .writable) kind) kind (writable-counts edition stage kind (omega (arith, small))) (ltb-true number _ (right kept low both)) in
       record {
         defined = wider 0x070fffff (destinationBits true) field refl stray;
         right = rw (u, lt-leb (countIn profile kind) number l);
@@ -89,7 +105,7 @@ module _ (edition stage : ℕ) where
       }
 
   -- a source that is used, of one row or more
-  pub plain-direct : (rows field : ℕ) → 1 ≤ rows → isPlainSource (usableIn edition stage .readable) true rows field ≡ true → PlainSource Source rows field
+  pub plain-direct : (rows field : ℕ) → 1 ≤ rows → isPlainSource (usableIn edition stage .readable) true rows field ≡ true → PlainSource (asDirect rows field) Source rows field
   unfolding isPlainSource
   plain-direct rows field some e =
       let stray = not-true (isStray (plainSourceBits true) field) (left (not (isStray (plainSourceBits true) field)) _ e) in
@@ -99,20 +115,20 @@ module _ (edition stage : ℕ) where
       let direct = value-within layout.indirect (plainSourceBits true) field stray in
       let no-offset = value-within layout.offset (plainSourceBits true) field stray in
       let within = leb-true (number + rows) (countAt (usableIn edition stage .readable) kind) (right (not (isStray (plainSourceBits true) field)) _ e) in
-      let (u, l) = counted isReadable (number + (rows - 1)) (countAt (usableIn edition stage .readable) kind) kind (usable-counts edition stage kind (omega (arith, small)) .0) (omega (arith, within, some)) in
+      let (u, l) = counted isReadable (number + (rows - 1)) (countAt (usableIn edition stage .readable) kind) kind (readable-counts edition stage kind (omega (arith, small))) (omega (arith, within, some)) in
       let d : directWrong (countIn profile) stage rows (directOf field) ≡ false = rw (u, le-ltb (countIn profile kind) (number + rows) (omega (arith, l, some)), eq-eqb (valueOf layout.offset field) 0 (omega (arith, no-offset))) in
       let i : isIndexed field ≡ false = rw (eq-eqb (valueOf layout.indirect field) 0 (omega (arith, direct))) in
       record {
         defined = wider (plainSourceBits true) (operandBits Source) field refl stray;
-        right = plain-source profile rows field i d;
+        right = right-direct profile rows field i d;
         written = λ s components h. ap (λ o. lacksAccess s (accessThrough rows components o)) (direct-source field i) ∙ h;
         dimension = source-dimension field;
       }
 
   -- one that is not
-  plain-unused : (field : ℕ) → isPlainSource (usableIn edition stage .readable) false 1 field ≡ true → PlainSource Unused 1 field
+  plain-unused : (asked : Asked) (rows field : ℕ) → isPlainSource (usableIn edition stage .readable) false rows field ≡ true → PlainSource asked Unused rows field
   unfolding isPlainSource
-  plain-unused field e =
+  plain-unused asked rows field e =
       record {
         defined = not-true (isStray 0 field) (left (not (isStray 0 field)) true e);
         right = λ swizzled h. refl;
@@ -120,7 +136,74 @@ module _ (edition stage : ℕ) where
         dimension = refl;
       }
 
-  pub plain-second : (shape : OperandShape) (field : ℕ) → isSampler shape ≡ false → isPlainSource (usableIn edition stage .readable) (isSource shape) 1 field ≡ true → PlainSource shape 1 field
-  plain-second Unused field n e = plain-unused field e
+  pub plain-second : (shape : OperandShape) (field : ℕ) → isSampler shape ≡ false → isPlainSource (usableIn edition stage .readable) (isSource shape) 1 field ≡ true → PlainSource (asDirect 1 field) shape 1 field
+  plain-second Unused field n e = plain-unused (asDirect 1 field) 1 field e
   plain-second Source field n e = plain-direct 1 field (omega arith) e
   plain-second Sampler field n e = absurd (true≢false n)
+
+  -- ---- where a source may be indexed
+
+  abbrev indexedBits : ℕ
+  indexedBits = 0x80030701ffffffff
+
+  module _ (rows field : ℕ) (some : 1 ≤ rows) where
+    abbrev kind : ℕ
+    kind = valueOf layout.indexKind field
+
+    abbrev number : ℕ
+    number = valueOf layout.number field
+
+    abbrev offset : ℕ
+    offset = valueOf layout.offset field
+
+    plain-indexed : isIndexed field ≡ true → isRightlyIndexed (usableIn edition stage) rows field ≡ true → PlainSource (asEither rows field) Source rows field
+    unfolding isRightlyIndexed
+    plain-indexed i e =
+        let kept = not (isStray indexedBits field) in
+        let constant = eqb (valueOf layout.kind field) 1 in
+        let low = ltb number (countAt (usableIn edition stage .indexing) kind) in
+        let within = leb (offset + rows) (countAt (usableIn edition stage .readable) 1) in
+        let three = left (kept && constant && low) within e in
+        let two = left (kept && constant) low three in
+        let stray = not-true (isStray indexedBits field) (left kept constant two) in
+        let small = value-within layout.indexKind indexedBits field stray in
+        let end = leb-true (offset + rows) (countAt (usableIn edition stage .readable) 1) (right (kept && constant && low) within e) in
+        let (index, below) = counted isIndex number (countAt (usableIn edition stage .indexing) kind) kind (indexing-counts edition stage kind (omega (arith, small))) (ltb-true number _ (right (kept && constant) low three)) in
+        let (_, room) = counted isReadable (offset + (rows - 1)) (countAt (usableIn edition stage .readable) 1) 1 (readable-counts edition stage 1 (omega arith)) (omega (arith, end, some)) in
+        let d : indexedWrong (countIn profile) stage rows (indexedOf field) ≡ false =
+        rw (
+          left (eqb stage 0) (ltb kind 3) index,
+          right kept constant two,
+          le-ltb 2 kind (omega (arith, ltb-true kind 3 (right (eqb stage 0) (ltb kind 3) index))),
+          lt-leb (countIn profile kind) number below,
+          le-ltb (countIn profile 1) (offset + rows) (omega (arith, room, some)),
+        ) in
+        record {
+          defined = wider indexedBits (operandBits Source) field refl stray;
+          right = right-indexed profile rows field i d;
+          written = λ s components h. none-lacking s rows components field h;
+          dimension = source-dimension field;
+        }
+
+    -- a direct source is one for either test
+    as-either : PlainSource (asDirect rows field) Source rows field → PlainSource (asEither rows field) Source rows field
+    as-either p =
+        record {
+          defined = p .defined;
+          right = p .right;
+          written = λ s components h. none-lacking s rows components field h;
+          dimension = p .dimension;
+        }
+
+    pub plain-either : (shape : OperandShape) → isSampler shape ≡ false → isPlainEither (usableIn edition stage) (isSource shape) rows field ≡ true → PlainSource (asEither rows field) shape rows field
+    unfolding isPlainEither
+    plain-either shape n e = go shape n (isIndexed field) refl e
+      where
+        go : (shape : OperandShape) → isSampler shape ≡ false → (b : Bool) → isIndexed field ≡ b
+            → cond b (isSource shape && isRightlyIndexed (usableIn edition stage) rows field) (isPlainSource (usableIn edition stage .readable) (isSource shape) rows field) ≡ true
+            → PlainSource (asEither rows field) shape rows field
+        go Unused n true i k = absurd (false≢true k)
+        go Unused n false i k = plain-unused (asEither rows field) rows field k
+        go Source n true i k = plain-indexed i k
+        go Source n false i k = as-either (plain-direct rows field some k)
+        go Sampler n b i k = absurd (true≢false n)

@@ -11,7 +11,7 @@ use Rattle.bytecode.specs.Decode.{noRefusal, isClean}
 use Rattle.bytecode.proofs.DecodeLaws.{Clean, is-clean}
 use Rattle.layout.specs.Layout as layout
 use Rattle.layout.specs.Layout.{valueOf, isStray, operandBits}
-use Rattle.layout.specs.Opcodes.{isIn, tex, addedOpcodes, rowOf, shapeOfRow, shapeOf, holds}
+use Rattle.layout.specs.Opcodes.{tex, rowOf, shapeOfRow, shapeOf, holds}
 use Rattle.layout.specs.Records.{directOf, registerOf, sourceOf, operandOf, destinationOf, samplerOf, tokenOf}
 use Rattle.layout.specs.declared.fields.Fields.{Fields}
 use Rattle.layout.specs.declared.opcodes.OperandShape.{OperandShape}
@@ -23,28 +23,28 @@ use Rattle.components.specs.declared.written.Written.{Written}
 use Rattle.components.specs.Reads.{dimensionOf, rowCount2}
 use Rattle.components.proofs.AccessLaws.{none-missing}
 use Rattle.components.proofs.Among.{one-row, by-selectors}
-use Rattle.faults.specs.Rules.{destinationWrong, maskWrong, opcodeNotForStage, samplerWrong}
+use Rattle.faults.specs.Rules.{opcodeTooNew, destinationWrong, maskWrong, opcodeNotForStage, samplerWrong}
 use Rattle.faults.specs.Profile.{profileOf, countIn}
 use Rattle.faults.specs.Order.{firstFault, sourceRules}
 use Rattle.faults.specs.Faults.{numberOf, swizzleWrong, ownFault}
-use Rattle.faults.specs.Plain.{isSource, isPlainOpcode, isPlainDestination, isPlainSource, isPlain, isPlainMatrix, isPlainTex}
+use Rattle.faults.specs.Plain.{plainOpcodes, isSource, isPlainOpcode, isPlainDestination, isPlainSource, isPlain, isPlainMatrix, isPlainTex}
 use Rattle.faults.specs.declared.profile.Profile.{Profile}
-use Rattle.faults.proofs.PlainOpcodes.{NoBranch, Apart, apart, not-one, not-swizzled, not-added, Matrix, is-matrix, first-shape}
-use Rattle.faults.proofs.PlainOperands.{PlainDestination, PlainSource, plain-destination, plain-direct, plain-second}
-use Rattle.faults.proofs.UsableCounts.{usableIn}
+use Rattle.faults.proofs.PlainOpcodes.{NoBranch, plain-ordinary, plain-in-edition, Matrix, is-matrix, first-shape}
+use Rattle.faults.proofs.PlainOperands.{Asked, asDirect, PlainDestination, PlainSource, plain-destination, plain-direct, plain-second}
+use Rattle.faults.proofs.UsableCounts.{usableIn, usable-opcodes}
 use Rattle.faults.proofs.FaultLaws.{staged}
 
 -- a token has none of faults 10 to 19, wherever it stands
 abbrev pub NoOwnFault : Profile → Token → Type 0
 NoOwnFault profile t = (token : ℕ) → ownFault profile token t ≡ noRefusal
 
-no-own-fault : (p : Profile) (t : Token) → isIn (t .opcode) addedOpcodes ≡ false → opcodeNotForStage (p .stage) (t .opcode) ≡ false
+no-own-fault : (p : Profile) (t : Token) → opcodeTooNew (p .edition) (t .opcode) ≡ false → opcodeNotForStage (p .stage) (t .opcode) ≡ false
     → destinationWrong (countIn p) (p .stage) (t .destination) ≡ false → maskWrong (t .opcode) (t .destination) ≡ false
     → numberOf (firstFault (sourceRules (countIn p) (p .stage) 1 (swizzleWrong false (t .opcode)) 0 (t .source1))) ≡ 0
     → numberOf (firstFault (sourceRules (countIn p) (p .stage) (rowCount2 (t .opcode)) (swizzleWrong true (t .opcode)) 0 (t .source2))) ≡ 0
     → NoOwnFault p t
 unfolding ownFault
-no-own-fault p t new stage d m first second token = simp (new, and-false, stage, staged p token t, d, m, first, second)
+no-own-fault p t new stage d m first second token = simp (new, stage, staged p token t, d, m, first, second)
 
 module _ (edition stage : ℕ) where
   abbrev profile : Profile
@@ -77,25 +77,20 @@ module _ (edition stage : ℕ) where
     abbrev selected1 : ℕ → Access
     selected1 dimension = selectedAccess (selectorSet1 o mask dimension) (directOf (f .source1))
 
-    -- what is shown of a destination and source 1, whatever source 2 is
-    module _ (shape2 : OperandShape) (whole : shapeOf o ≡ holds true Source shape2) (e : (destination && first) ≡ true) where
+    -- What is shown of a token from what is shown of its destination and of source 1, whatever source 2 is. `asked` is the test of source 1.
+    module _ (shape2 : OperandShape) (whole : shapeOf o ≡ holds true Source shape2) (into : PlainDestination edition stage o (f .destination)) (asked : Asked)
+        (from : PlainSource edition stage asked Source 1 (f .source1)) where
       abbrev t : Token
       t = tokenOf (holds true Source shape2) f
 
-      d : PlainDestination edition stage o (f .destination)
-      d = plain-destination edition stage o (f .destination) (left destination first e)
-
-      a : PlainSource edition stage Source 1 (f .source1)
-      a = plain-direct edition stage 1 (f .source1) (omega arith) (right destination first e)
-
-      reads1 : (n : ℕ) → dimensionOf (operandOf shape2 (f .source2)) ≡ n → (s : Written) → lacksAccess s (selected1 n) ≡ false → lacksAccess s (access1Of t) ≡ false
+      pub reads1 : (n : ℕ) → dimensionOf (operandOf shape2 (f .source2)) ≡ n → (s : Written) → asked s (λ z. namedSet z (selectorSet1 o mask n)) ≡ false → lacksAccess s (access1Of t) ≡ false
       unfolding tokenOf
       reads1 n k s l =
           ap (λ n. lacksAccess s (accessThrough 1 (λ z. namedSet z (selectorSet1 o mask n)) (sourceOf (f .source1)))) k
-          ∙ a .written s (λ z. namedSet z (selectorSet1 o mask n)) l
+          ∙ from .written s (λ z. namedSet z (selectorSet1 o mask n)) l
 
       -- all of it, by what is left to show of the opcode and of source 2
-      together : (unwritten : Written → Fields → Bool) → NoBranch o → isIn o addedOpcodes ≡ false → opcodeNotForStage stage o ≡ false
+      pub together : (unwritten : Written → Fields → Bool) → NoBranch o → opcodeTooNew edition o ≡ false → opcodeNotForStage stage o ≡ false
           → swizzleWrong false o (directOf (f .source1) .swizzle) ≡ false
           → isStray (operandBits shape2) (f .source2) ≡ false
           → numberOf (firstFault (sourceRules (countIn profile) stage (rowCount2 o) (swizzleWrong true o) 0 (operandOf shape2 (f .source2)))) ≡ 0
@@ -105,12 +100,20 @@ module _ (edition stage : ℕ) where
       together unwritten flow new for-stage swizzle defined second r1 r2 =
           record {
             flow = flow;
-            clean = is-clean (shapeOf o) f (subst (λ s. Clean s f) (sym whole) (record { listed = refl; destination = d .defined; source1 = a .defined; source2 = defined }));
-            right = subst (λ s. NoOwnFault profile (tokenOf s f)) (sym whole) (no-own-fault profile t new for-stage (d .right) (d .mask) (a .right (swizzleWrong false o) swizzle) second);
+            clean = is-clean (shapeOf o) f (subst (λ s. Clean s f) (sym whole) (record { listed = refl; destination = into .defined; source1 = from .defined; source2 = defined }));
+            right = subst (λ s. NoOwnFault profile (tokenOf s f)) (sym whole) (no-own-fault profile t new for-stage (into .right) (into .mask) (from .right (swizzleWrong false o) swizzle) second);
             destination = ap (λ s. destinationOf (s .destination) (f .destination)) whole;
             written1 = subst (λ x. (s : Written) → unwritten s f ≡ false → lacksAccess s (access1Of (tokenOf x f)) ≡ false) (sym whole) r1;
             written2 = subst (λ x. (s : Written) → unwritten s f ≡ false → lacksAccess s (access2Of (tokenOf x f)) ≡ false) (sym whole) r2;
           }
+
+    -- of a direct source 1
+    module _ (e : (destination && first) ≡ true) where
+      plain-into : PlainDestination edition stage o (f .destination)
+      plain-into = plain-destination edition stage o (f .destination) (left destination first e)
+
+      plain-from : PlainSource edition stage (asDirect 1 (f .source1)) Source 1 (f .source1)
+      plain-from = plain-direct edition stage 1 (f .source1) (omega arith) (right destination first e)
 
     -- ---- with an opcode that has no rules of its own
 
@@ -124,29 +127,25 @@ module _ (edition stage : ℕ) where
     unfolding plainUnwritten
     asked s e = neither (lacksAccess s (selected1 0)) (lacksAccess s selected2) e
 
-    when-plain : isPlainOpcode o ≡ true → (destination && first && second) ≡ true → PlainToken plainUnwritten f
+    when-plain : isPlainOpcode (plainOpcodes edition) o ≡ true → (destination && first && second) ≡ true → PlainToken plainUnwritten f
     unfolding tokenOf
     when-plain p e =
-        let (whole, not-sampler) = first-shape o p in
+        let (whole, not-sampler) = first-shape edition o p in
         let shape2 = shapeOf o .source2 in
         let both = left (destination && first) second e in
-        let b = plain-second edition stage shape2 (f .source2) not-sampler (right (destination && first) second e) in
-        let h = apart o p in
-        let outside : 0x17 ≤ o → o ≤ 0x19 → ⊥ = λ low high. h low (omega (arith, high)) in
-        let row = one-row o outside in
-        together shape2 whole both plainUnwritten (λ low high. h (omega (arith, low)) (omega (arith, high))) (not-added o h) (for-stage h) (not-swizzled false o (directOf (f .source1) .swizzle) h) (b .defined)
-        (ap (λ n. numberOf (firstFault (sourceRules (countIn profile) stage n (swizzleWrong true o) 0 (operandOf shape2 (f .source2))))) row ∙ b .right (swizzleWrong true o) (not-swizzled true o (directOf (f .source2) .swizzle) h))
-        (λ s l. reads1 shape2 whole both 0 (b .dimension) s (asked s l .0))
-        (λ s l. ap₂ (λ n c. lacksAccess s (accessThrough n c (operandOf shape2 (f .source2)))) row (fun-ext (λ z. by-selectors o outside mask z)) ∙ b .written s (λ z. namedSet z (selectorSet2 o mask)) (asked s l .1))
-      where
-        for-stage : Apart o → opcodeNotForStage stage o ≡ false
-        for-stage h = simp (not-one o h 0x27 tt, not-one o h 0x28 tt, and-false)
+        let through = plain-second edition stage shape2 (f .source2) not-sampler (right (destination && first) second e) in
+        let rules = plain-ordinary edition o p in
+        let row = one-row o (rules .single) in
+        together shape2 whole (plain-into both) (asDirect 1 (f .source1)) (plain-from both) plainUnwritten (rules .flow) (plain-in-edition edition o p) (rules .for-stage stage) (rules .swizzle false (directOf (f .source1) .swizzle)) (through .defined)
+        (ap (λ n. numberOf (firstFault (sourceRules (countIn profile) stage n (swizzleWrong true o) 0 (operandOf shape2 (f .source2))))) row ∙ through .right (swizzleWrong true o) (rules .swizzle true (directOf (f .source2) .swizzle)))
+        (λ s l. reads1 shape2 whole (plain-into both) (asDirect 1 (f .source1)) (plain-from both) 0 (through .dimension) s (asked s l .0))
+        (λ s l. ap₂ (λ n c. lacksAccess s (accessThrough n c (operandOf shape2 (f .source2)))) row (fun-ext (λ z. by-selectors o (rules .single) mask z)) ∙ through .written s (λ z. namedSet z (selectorSet2 o mask)) (asked s l .1))
 
     pub plain : isPlain (usableIn edition stage) f ≡ true → PlainToken plainUnwritten f
     unfolding isPlain
-    plain e = go (isPlainOpcode o) refl e
+    plain e = go (isPlainOpcode (plainOpcodes edition) o) refl (ap (λ set. cond (isPlainOpcode set o) (destination && first && second) false) (sym (usable-opcodes edition stage)) ∙ e)
       where
-        go : (b : Bool) → isPlainOpcode o ≡ b → cond b (destination && first && second) false ≡ true → PlainToken plainUnwritten f
+        go : (b : Bool) → isPlainOpcode (plainOpcodes edition) o ≡ b → cond b (destination && first && second) false ≡ true → PlainToken plainUnwritten f
         go true l k = when-plain l k
         go false l k = absurd (false≢true k)
 
@@ -167,12 +166,12 @@ module _ (edition stage : ℕ) where
     when-matrix m e =
         let three = left (destination && first && matrix) unswizzled e in
         let both = left (destination && first) matrix three in
-        let b = plain-direct edition stage (rowCount2 o) (f .source2) (m .rows) (right (destination && first) matrix three) in
+        let through = plain-direct edition stage (rowCount2 o) (f .source2) (m .rows) (right (destination && first) matrix three) in
         let z = eqb-true (valueOf layout.swizzle (f .source2)) 0xe4 (right (destination && first && matrix) unswizzled e) in
-        together Source (m .shape) both matrixUnwritten (m .flow) (m .new) (m .for-stage stage) (m .swizzle1 (directOf (f .source1) .swizzle)) (b .defined)
-        (b .right (swizzleWrong true o) (ap (swizzleWrong true o) z ∙ m .swizzle2))
-        (λ s l. reads1 Source (m .shape) both 0 (b .dimension) s (asked-matrix s l .0))
-        (λ s l. b .written s (readSet2 o mask) (sym (none-missing s (rowCount2 o) (readSet2 o mask) (directOf (f .source2)) (asked-matrix s l .1))))
+        together Source (m .shape) (plain-into both) (asDirect 1 (f .source1)) (plain-from both) matrixUnwritten (m .flow) (m .new edition) (m .for-stage stage) (m .swizzle1 (directOf (f .source1) .swizzle)) (through .defined)
+        (through .right (swizzleWrong true o) (ap (swizzleWrong true o) z ∙ m .swizzle2))
+        (λ s l. reads1 Source (m .shape) (plain-into both) (asDirect 1 (f .source1)) (plain-from both) 0 (through .dimension) s (asked-matrix s l .0))
+        (λ s l. through .written s (readSet2 o mask) (sym (none-missing s (rowCount2 o) (readSet2 o mask) (directOf (f .source2)) (asked-matrix s l .1))))
 
     pub plain-matrix : isPlainMatrix (usableIn edition stage) f ≡ true → PlainToken matrixUnwritten f
     unfolding isPlainMatrix
@@ -207,10 +206,10 @@ module _ (edition stage : ℕ) where
         let fragment = eqb-true stage 1 (right (destination && first) (eqb stage 1) three) in
         let whole = ap shapeOf is in
         let right-sampler = not-true wrong (right (destination && first && eqb stage 1 && not sampled) (not wrong) e) in
-        together Sampler whole both texUnwritten (λ low high. omega (arith, high, is)) (ap (λ o. isIn o addedOpcodes) is) (rw (ne-eqb stage 0 (λ z. omega (arith, z, fragment)))) (ap (λ o. swizzleWrong false o (directOf (f .source1) .swizzle)) is)
+        together Sampler whole (plain-into both) (asDirect 1 (f .source1)) (plain-from both) texUnwritten (λ low high. omega (arith, high, is)) (ap (opcodeTooNew edition) is ∙ and-false (eqb edition 1)) (rw (ne-eqb stage 0 (λ z. omega (arith, z, fragment)))) (ap (λ o. swizzleWrong false o (directOf (f .source1) .swizzle)) is)
         (not-true sampled (right (destination && first && eqb stage 1) (not sampled) four))
         (rw right-sampler)
-        (λ s l. reads1 Sampler whole both (samplerOf (f .source2) .dimension) refl s (asked-tex is s l))
+        (λ s l. reads1 Sampler whole (plain-into both) (asDirect 1 (f .source1)) (plain-from both) (samplerOf (f .source2) .dimension) refl s (asked-tex is s l))
         (λ s l. refl)
 
     pub plain-tex : isPlainTex profile (usableIn edition stage) f ≡ true → PlainToken texUnwritten f

@@ -1,4 +1,4 @@
--- The counts of what a stage reads and writes are those of the table, with 0 for the other kinds.
+-- The counts of what a stage reads, writes and takes for indices are those of the table, with 0 for the other kinds.
 -- Assumes nothing.
 use Prim.Native.Nat.{ℕ, _*_, _%_, _^_, _<_}
 use mathlib.Core.Bool.{Bool, true, false, cond, _&&_}
@@ -6,76 +6,88 @@ use mathlib.Core.Path.{_≡_, refl, _∙_, ap, sym}
 use native.Mathlib.Decide.{decLt}
 use native.Mathlib.Nat.{zero-div}
 use native.Mathlib.Omega.{arith}
-use lib.Bits.{bitAnd}
-use lib.Dec.{eqb, eqb→eq}
+use lib.Dec.{T, eqb, ltb, eqb→eq}
 use Rattle.laws.specs.Tests.{every}
-use Rattle.laws.proofs.Every.{below, both-left, both-right}
+use Rattle.laws.proofs.Every.{below}
 use Rattle.registers.specs.Counts.{countOf}
 use Rattle.registers.specs.Uses.{isReadable, isWritable}
 use Rattle.registers.proofs.Outside.{outside-edition, outside-stage}
 use Rattle.registers.proofs.Packed.{none-packed}
 use Rattle.faults.specs.Profile.{profileOf}
-use Rattle.faults.specs.Plain.{usableOf, countAt}
+use Rattle.faults.specs.Plain.{plainOpcodes, usable, usableOf, countAt}
 use Rattle.faults.specs.declared.plain.Usable.{Usable}
+use Rattle.faults.specs.declared.profile.Profile.{Profile}
 
 abbrev pub usableIn : ℕ → ℕ → Usable
-usableIn edition stage = usableOf stage (profileOf edition stage .counts)
+usableIn edition stage = usableOf (profileOf edition stage)
+
+-- the opcodes are those of the edition, whatever the stage
+pub usable-opcodes : (edition stage : ℕ) → usableIn edition stage .opcodes ≡ plainOpcodes edition
+unfolding usableOf
+usable-opcodes edition stage = go (eqb stage 0) _ _ refl refl
+  where
+    go : (b : Bool) (u v : Usable) → u .opcodes ≡ plainOpcodes edition → v .opcodes ≡ plainOpcodes edition → cond b u v .opcodes ≡ plainOpcodes edition
+    go true u v e k = e
+    go false u v e k = k
 
 -- a kind that a stage does not use counts 0
 abbrev pub ifUsed : (ℕ → ℕ → Bool) → ℕ → ℕ → ℕ → ℕ
 ifUsed used edition stage kind = cond (used kind stage) (countOf kind edition stage) 0
 
-agreeRead : ℕ → ℕ → ℕ → Bool
-agreeRead edition stage kind = eqb (countAt (usableIn edition stage .readable) kind) (ifUsed isReadable edition stage kind)
+-- attributes, constants and temporaries of a vertex program may be indices
+abbrev pub isIndex : ℕ → ℕ → Bool
+isIndex kind stage = eqb stage 0 && ltb kind 3
 
-agreeWrite : ℕ → ℕ → ℕ → Bool
-agreeWrite edition stage kind = eqb (countAt (usableIn edition stage .writable) kind) (ifUsed isWritable edition stage kind)
-
-agree : ℕ → ℕ → ℕ → Bool
-agree edition stage kind = agreeRead edition stage kind && agreeWrite edition stage kind
+-- some counts are those of the table
+abbrev pub Agree : (Usable → ℕ) → (ℕ → ℕ → Bool) → ℕ → ℕ → ℕ → Type 0
+Agree counts used edition stage kind = countAt (counts (usableIn edition stage)) kind ≡ ifUsed used edition stage kind
 
 -- where there are no registers
-abbrev noneUsable : Usable
-noneUsable = record { readable = 0; writable = 0 }
+abbrev bare : ℕ → ℕ → Profile
+bare edition stage = record { edition = edition; stage = stage; counts = 0 }
 
-nothing : (stage : ℕ) → usableOf stage 0 ≡ noneUsable
-unfolding usableOf
-nothing stage = go (eqb stage 0)
-  where
-    go : (b : Bool) → cond b (record { readable = bitAnd 0 0xffffff; writable = bitAnd 0 0xffffff0000 }) (record { readable = bitAnd 0 0xff00ffff00; writable = bitAnd 0 0xff0000ffff0000 }) ≡ noneUsable
-    go true = refl
-    go false = refl
+-- by one test of every edition, stage and kind
+module _ (counts : Usable → ℕ) (used : ℕ → ℕ → Bool) where
+  agrees : ℕ → ℕ → ℕ → Bool
+  agrees edition stage kind = eqb (countAt (counts (usableIn edition stage)) kind) (ifUsed used edition stage kind)
 
-abbrev pub Agree : ℕ → ℕ → ℕ → Type 0
-Agree edition stage kind =
-    (countAt (usableIn edition stage .readable) kind ≡ ifUsed isReadable edition stage kind)
-    × (countAt (usableIn edition stage .writable) kind ≡ ifUsed isWritable edition stage kind)
+  none-agree : ((edition stage : ℕ) → counts (usableOf (bare edition stage)) ≡ 0) → (edition stage kind : ℕ) → ((k : ℕ) → countOf k edition stage ≡ 0)
+      → Agree counts used edition stage kind
+  none-agree empty edition stage kind h =
+      ap (λ n. countAt (counts (usableOf (record { edition = edition; stage = stage; counts = n }))) kind) (sym (none-packed (λ k. countOf k edition stage) h))
+      ∙ ap (λ n. countAt n kind) (empty edition stage)
+      ∙ ap (λ n. n % 256) (zero-div (2 ^ (8 * (kind % 8))))
+      ∙ unused (used kind stage) (h kind)
+    where
+      unused : (b : Bool) {n : ℕ} → n ≡ 0 → 0 ≡ cond b n 0
+      unused true e = sym e
+      unused false e = refl
 
-none-agree : (edition stage kind : ℕ) → ((k : ℕ) → countOf k edition stage ≡ 0) → Agree edition stage kind
-none-agree edition stage kind h =
-    let z = ap (usableOf stage) (sym (none-packed (λ k. countOf k edition stage) h)) ∙ nothing stage in (
-      ap (λ u. countAt (u .readable) kind) z ∙ zero-count ∙ unused (isReadable kind stage) (h kind),
-      ap (λ u. countAt (u .writable) kind) z ∙ zero-count ∙ unused (isWritable kind stage) (h kind),
-    )
-  where
-    zero-count : countAt 0 kind ≡ 0
-    zero-count = ap (λ n. n % 256) (zero-div (2 ^ (8 * (kind % 8))))
-
-    unused : (b : Bool) {n : ℕ} → n ≡ 0 → 0 ≡ cond b n 0
-    unused true e = sym e
-    unused false e = refl
-
-pub usable-counts : (edition stage kind : ℕ) → kind < 8 → Agree edition stage kind
-unfolding agree agreeRead agreeWrite usableOf countOf
-usable-counts edition stage kind h =
-    elim (decLt edition 4) [
-      | yes e ↦ elim (decLt stage 2) [
-        | yes s ↦
-            let t = below (agree edition stage) 8 (below (λ s. every (agree edition s) 8) 2 (below (λ e. every (λ s. every (agree e s) 8) 2) 4 tt edition e) stage s) kind h in (
-              eqb→eq _ _ (both-left (agreeRead edition stage kind) (agreeWrite edition stage kind) t),
-              eqb→eq _ _ (both-right (agreeRead edition stage kind) (agreeWrite edition stage kind) t),
-            )
-        | no s ↦ none-agree edition stage kind (λ k. outside-stage k edition stage (omega (arith, s)))
+  agree : ((edition stage : ℕ) → counts (usableOf (bare edition stage)) ≡ 0) → T (every (λ e. every (λ s. every (agrees e s) 8) 2) 4)
+      → (edition stage kind : ℕ) → kind < 8 → Agree counts used edition stage kind
+  unfolding agrees
+  agree empty t edition stage kind h =
+      elim (decLt edition 4) [
+        | yes e ↦ elim (decLt stage 2) [
+          | yes s ↦ eqb→eq _ _ (below (agrees edition stage) 8 (below (λ s. every (agrees edition s) 8) 2 (below (λ e. every (λ s. every (agrees e s) 8) 2) 4 t edition e) stage s) kind h)
+          | no s ↦ none-agree empty edition stage kind (λ k. outside-stage k edition stage (omega (arith, s)))
+        ]
+        | no e ↦ none-agree empty edition stage kind (λ k. outside-edition k edition stage (omega (arith, e)))
       ]
-      | no e ↦ none-agree edition stage kind (λ k. outside-edition k edition stage (omega (arith, e)))
-    ]
+
+-- where there are none, none are usable
+none-usable : (counts : Usable → ℕ) (opcodes : ℕ) → counts (usable opcodes 0 0 0) ≡ 0 → (b : Bool) → counts (cond b (usable opcodes 0 0 0) (usable opcodes 0 0 0)) ≡ 0
+none-usable counts opcodes e true = e
+none-usable counts opcodes e false = e
+
+pub readable-counts : (edition stage kind : ℕ) → kind < 8 → Agree (λ u. u .readable) isReadable edition stage kind
+unfolding agrees usableOf plainOpcodes countOf
+readable-counts = agree (λ u. u .readable) isReadable (λ edition stage. none-usable (λ u. u .readable) (plainOpcodes edition) refl (eqb stage 0)) tt
+
+pub writable-counts : (edition stage kind : ℕ) → kind < 8 → Agree (λ u. u .writable) isWritable edition stage kind
+unfolding agrees usableOf plainOpcodes countOf
+writable-counts = agree (λ u. u .writable) isWritable (λ edition stage. none-usable (λ u. u .writable) (plainOpcodes edition) refl (eqb stage 0)) tt
+
+pub indexing-counts : (edition stage kind : ℕ) → kind < 8 → Agree (λ u. u .indexing) isIndex edition stage kind
+unfolding agrees usableOf plainOpcodes countOf
+indexing-counts = agree (λ u. u .indexing) isIndex (λ edition stage. none-usable (λ u. u .indexing) (plainOpcodes edition) refl (eqb stage 0)) tt

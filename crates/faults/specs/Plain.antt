@@ -6,7 +6,7 @@ use lib.Dec.{eqb, ltb, leb}
 use Rattle.layout.specs.Layout as layout
 use Rattle.layout.specs.Layout.{valueOf, operandBits, isStray}
 use Rattle.layout.specs.Opcodes.{shapeOf, tex}
-use Rattle.layout.specs.Records.{destinationOf, samplerOf}
+use Rattle.layout.specs.Records.{isIndexed, destinationOf, samplerOf}
 use Rattle.layout.specs.declared.fields.Fields.{Fields}
 use Rattle.layout.specs.declared.opcodes.OperandShape.{OperandShape}
 use Rattle.layout.specs.declared.opcodes.OperandShape.the-variants.{Unused, Source, Sampler}
@@ -16,12 +16,20 @@ use Rattle.faults.specs.Profile.{countIn}
 use Rattle.faults.specs.declared.plain.Usable.{Usable}
 use Rattle.faults.specs.declared.profile.Profile.{Profile}
 
--- the counts of the kinds that a stage reads, and of those that it writes
-unfoldable pub usableOf : ℕ → ℕ → Usable
-usableOf stage counts =
-    cond (eqb stage 0)
-    (record { readable = bitAnd counts 0xffffff; writable = bitAnd counts 0xffffff0000 })
-    (record { readable = bitAnd counts 0xff00ffff00; writable = bitAnd counts 0xff0000ffff0000 })
+-- a set of opcodes, bit by bit: those of every edition, and ddx and ddy, which edition 1 does not have
+unfoldable pub plainOpcodes : ℕ → ℕ
+plainOpcodes edition = cond (eqb edition 1) 0x3600007fffff 0x36000c7fffff
+
+abbrev pub usable : ℕ → ℕ → ℕ → ℕ → Usable
+usable opcodes readable writable indexing =
+    record { opcodes = opcodes; readable = readable; writable = writable; indexing = indexing }
+
+-- the counts of the kinds that a stage reads, of those that it writes, and of those that may be indices
+unfoldable pub usableOf : Profile → Usable
+usableOf p =
+    cond (eqb (p .stage) 0)
+    (usable (plainOpcodes (p .edition)) (bitAnd (p .counts) 0xffffff) (bitAnd (p .counts) 0xffffff0000) (bitAnd (p .counts) 0xffffff))
+    (usable (plainOpcodes (p .edition)) (bitAnd (p .counts) 0xff00ffff00) (bitAnd (p .counts) 0xff0000ffff0000) 0)
 
 -- the count of a kind below 8
 abbrev pub countAt : ℕ → ℕ → ℕ
@@ -32,9 +40,9 @@ isSource Unused = false
 isSource Source = true
 isSource Sampler = false
 
--- a set of opcodes, bit by bit
-unfoldable pub isPlainOpcode : ℕ → Bool
-isPlainOpcode opcode = cond (leb 64 opcode) false (eqb (0x3600007fffff / 2 ^ opcode % 2) 1)
+-- a set of opcodes has an opcode
+unfoldable pub isPlainOpcode : ℕ → ℕ → Bool
+isPlainOpcode set opcode = cond (leb 64 opcode) false (eqb (set / 2 ^ opcode % 2) 1)
 
 -- the bits of a direct source of a kind below 8 with no offset; none where it is not used
 abbrev pub plainSourceBits : Bool → ℕ
@@ -52,9 +60,21 @@ isPlainSource readable used rows field =
     not (isStray (plainSourceBits used) field)
     && (not used || leb (valueOf layout.number field + rows) (countAt readable (valueOf layout.kind field)))
 
+-- an indexed source of so many rows: a constant, by a register that may be an index
+unfoldable pub isRightlyIndexed : Usable → ℕ → ℕ → Bool
+isRightlyIndexed u rows field =
+    not (isStray 0x80030701ffffffff field)
+    && eqb (valueOf layout.kind field) 1
+    && ltb (valueOf layout.number field) (countAt (u .indexing) (valueOf layout.indexKind field))
+    && leb (valueOf layout.offset field + rows) (countAt (u .readable) 1)
+
+-- an indexed source, a direct one, or none
+unfoldable pub isPlainEither : Usable → Bool → ℕ → ℕ → Bool
+isPlainEither u used rows field = cond (isIndexed field) (used && isRightlyIndexed u rows field) (isPlainSource (u .readable) used rows field)
+
 unfoldable pub isPlain : Usable → Fields → Bool
 isPlain u f =
-    cond (isPlainOpcode (f .opcode))
+    cond (isPlainOpcode (u .opcodes) (f .opcode))
     (isPlainDestination (u .writable) (f .opcode) (f .destination)
     && isPlainSource (u .readable) true 1 (f .source1)
     && isPlainSource (u .readable) (isSource (shapeOf (f .opcode) .source2)) 1 (f .source2))
@@ -77,3 +97,12 @@ isPlainTex p u f =
     && not (isStray (operandBits Sampler) (f .source2))
     && not (samplerWrong (countIn p) (samplerOf (f .source2))))
     false
+
+-- with a source that is indexed, and a matrix or not
+unfoldable pub isPlainIndexed : Usable → Fields → Bool
+isPlainIndexed u f =
+    cond (eqb (rowCount2 (f .opcode)) 1 && not (isPlainOpcode (u .opcodes) (f .opcode))) false
+    (isPlainDestination (u .writable) (f .opcode) (f .destination)
+    && isPlainEither u true 1 (f .source1)
+    && isPlainEither u (isSource (shapeOf (f .opcode) .source2)) (rowCount2 (f .opcode)) (f .source2)
+    && (eqb (rowCount2 (f .opcode)) 1 || eqb (valueOf layout.swizzle (f .source2)) 0xe4))

@@ -1,44 +1,66 @@
 // Plain tokens: a few tests of their fields tell that they have no fault. Most tokens are plain; the others are judged rule by rule.
 ghost use mathlib.Core.Path.{_≡_};
-ghost use Rattle.faults.specs.Plain.{usableOf, countAt, isSource, isPlainOpcode, plainSourceBits, isPlainDestination, isPlainSource, isPlain, isPlainMatrix, isPlainTex};
+ghost use Rattle.faults.specs.Plain.{plainOpcodes, usableOf, countAt, isSource, isPlainOpcode, plainSourceBits, isPlainDestination, isPlainSource, isRightlyIndexed, isPlainEither, isPlain, isPlainMatrix, isPlainTex, isPlainIndexed};
 use crate::profile::Profile;
 use crate::rules;
-use components::access;
+use components::selection;
 use layout::bits;
 use layout::fields::Fields;
 use layout::opcodes;
 use layout::opcodes::OperandShape;
 
-// How many registers of each kind a source may name, and a destination: eight bits for each kind, 0 for a kind that the stage does not read,
-// or write.
+// What a plain token may use in an edition and a stage: a set of opcodes, and how many registers of each kind a source may name, a
+// destination, and the index of a source. Counts have eight bits for each kind, 0 where a kind may not be named so.
 pub struct Usable {
+    pub opcodes: u64,
     pub readable: u64,
     pub writable: u64,
+    pub indexing: u64,
 }
 
-// The opcodes below m33, 17, and from sge, 29, on, as a set: each has a destination and one or two sources, in every edition and stage, and
-// few rules.
+// The opcodes below m33, 17, and from sge, 29, on, as a set: each has a destination and one or two sources, in every stage, and few rules.
 const OPCODES: u64 = 0x3600_007F_FFFF;
 
-// The bits that a plain operand may have: its kind is below 8, and a source is direct and has no offset.
+// With ddx, 1a, and ddy, 1b, which edition 1 does not have.
+const OPCODES_AND_DERIVATIVES: u64 = 0x3600_0C7F_FFFF;
+
+// The bits that a plain operand may have. Kinds are below 8; a direct source has no offset, and what is indexed is kind 0 or 1.
 const DESTINATION_BITS: u64 = 0x070F_FFFF;
 
 const SOURCE_BITS: u64 = 0x0003_0F07_FF00_FFFF;
 
-// From the counts of a profile: a vertex program reads kinds 0, 1 and 2 and writes 2, 3 and 4, a fragment program reads 1, 2 and 4 and
-// writes 2, 3 and 6.
-pub fn usable_of(stage: u8, counts: u64) -> Usable
-    ensures { λ r. ⌜ r ≡ usableOf stage counts ⌝ }
+const INDEXED_BITS: u64 = 0x8003_0701_FFFF_FFFF;
+
+// A vertex program reads kinds 0, 1 and 2, which may be indices there, and writes 2, 3 and 4; a fragment program reads 1, 2 and 4 and writes
+// 2, 3 and 6.
+pub fn usable_of(profile: Profile) -> Usable
+    ensures { λ r. ⌜ r ≡ usableOf profile ⌝ }
 {
-    if stage == 0 {
+    let counts = profile.counts;
+    let opcodes = plain_opcodes(profile.edition);
+    if profile.stage == 0 {
         return Usable {
+            opcodes,
             readable: counts & 0xFF_FFFF,
             writable: counts & 0xFF_FFFF_0000,
+            indexing: counts & 0xFF_FFFF,
         };
     }
     Usable {
+        opcodes,
         readable: counts & 0xFF_00FF_FF00,
         writable: counts & 0xFF_0000_FFFF_0000,
+        indexing: 0,
+    }
+}
+
+fn plain_opcodes(edition: u32) -> u64
+    ensures { λ r. ⌜ r ≡ plainOpcodes edition ⌝ }
+{
+    if edition == 1 {
+        OPCODES
+    } else {
+        OPCODES_AND_DERIVATIVES
     }
 }
 
@@ -46,7 +68,7 @@ pub fn usable_of(stage: u8, counts: u64) -> Usable
 pub fn is_plain(usable: Usable, f: Fields) -> bool
     ensures { λ r. ⌜ r ≡ isPlain usable f ⌝ }
 {
-    if !is_plain_opcode(f.opcode) {
+    if !is_plain_opcode(usable.opcodes, f.opcode) {
         return false;
     }
     let shape = opcodes::shape_of(f.opcode);
@@ -60,7 +82,7 @@ pub fn is_plain(usable: Usable, f: Fields) -> bool
 pub fn is_plain_matrix(usable: Usable, f: Fields) -> bool
     ensures { λ r. ⌜ r ≡ isPlainMatrix usable f ⌝ }
 {
-    let rows = access::rows2(f.opcode);
+    let rows = selection::rows2(f.opcode);
     if rows == 1 {
         return false;
     }
@@ -86,13 +108,30 @@ pub fn is_plain_tex(profile: Profile, usable: Usable, f: Fields) -> bool
         & !rules::sampler_wrong(profile, sampler)
 }
 
-fn is_plain_opcode(opcode: u32) -> bool
-    ensures { λ r. ⌜ r ≡ isPlainOpcode opcode ⌝ }
+// The same of a token with an indexed source, a matrix among them.
+pub fn is_plain_indexed(usable: Usable, f: Fields) -> bool
+    ensures { λ r. ⌜ r ≡ isPlainIndexed usable f ⌝ }
+{
+    let rows = selection::rows2(f.opcode);
+    if (rows == 1) & !is_plain_opcode(usable.opcodes, f.opcode) {
+        return false;
+    }
+    let shape = opcodes::shape_of(f.opcode);
+    let shape2 = shape.source2;
+    let second = layout::unpack_direct(f.source2);
+    is_plain_destination(usable.writable, f.opcode, f.destination)
+        & is_plain_either(usable, true, 1, f.source1)
+        & is_plain_either(usable, is_source(shape2), rows, f.source2)
+        & ((rows == 1) | (second.swizzle == 0xe4))
+}
+
+fn is_plain_opcode(set: u64, opcode: u32) -> bool
+    ensures { λ r. ⌜ r ≡ isPlainOpcode set opcode ⌝ }
 {
     if 64 <= opcode {
         return false;
     }
-    (OPCODES >> opcode) % 2 == 1
+    (set >> opcode) % 2 == 1
 }
 
 fn is_plain_destination(writable: u64, opcode: u32, field: u64) -> bool
@@ -112,6 +151,28 @@ fn is_plain_source(readable: u64, used: bool, rows: u8, field: u64) -> bool
     let end = s.number as u32 + rows as u32;
     let count = count_at(readable, s.kind);
     !bits::is_stray(source_bits(used), field) & (!used | (end <= count as u32))
+}
+
+// A source that is indexed, or direct, or not used.
+fn is_plain_either(usable: Usable, used: bool, rows: u8, field: u64) -> bool
+    ensures { λ r. ⌜ r ≡ isPlainEither usable used rows field ⌝ }
+{
+    if layout::is_indexed(field) {
+        return used & is_rightly_indexed(usable, rows, field);
+    }
+    is_plain_source(usable.readable, used, rows, field)
+}
+
+fn is_rightly_indexed(usable: Usable, rows: u8, field: u64) -> bool
+    ensures { λ r. ⌜ r ≡ isRightlyIndexed usable rows field ⌝ }
+{
+    let s = layout::unpack_indexed(field);
+    let end = s.offset as u16 + rows as u16;
+    let constants = count_at(usable.readable, 1);
+    !bits::is_stray(INDEXED_BITS, field)
+        & (s.kind == 1)
+        & (s.number < count_at(usable.indexing, s.index_kind))
+        & (end <= constants)
 }
 
 fn source_bits(used: bool) -> u64

@@ -10,7 +10,7 @@ ghost use Rattle.faults.specs.Faults.{numberOf, swizzleWrong, recordFaul
 use crate::profile::Profile;
 use crate::rules;
 use bytecode::answers::Refusal;
-use components::access;
+use components::selection;
 use layout::fields::Fields;
 use layout::opcodes::OperandShape;
 use layout::opcodes::Shape;
@@ -48,7 +48,7 @@ fn record_fault(profile: Profile, token: usize, shape: Shape, f: Fields) -> Refu
         profile,
         true,
         f.opcode,
-        access::rows2(f.opcode),
+        selection::rows2(f.opcode),
         shape2,
         f.source2,
     );

@@ -2,7 +2,7 @@
 -- Assumes nothing.
 use Prim.Native.Nat.{ℕ}
 use mathlib.Core.Bool.{Bool, true, false, cond, false≢true}
-use mathlib.Core.Path.{_≡_, _∙_, sym, ap}
+use mathlib.Core.Path.{_≡_, _∙_, sym, ap, ap₂}
 use native.Mathlib.Omega.{arith}
 use native.Mathlib.Decide.{decLt}
 use borrow.Author.Tests.{lt-ltb, le-ltb, ne-eqb}
@@ -14,10 +14,13 @@ use Rattle.layout.specs.declared.record.Token.{Token}
 use Rattle.components.specs.Access.{lacksAccess, access1Of, access2Of}
 use Rattle.components.specs.declared.written.Written.{Written}
 use Rattle.faults.specs.Faults.{ownFault}
+use Rattle.faults.specs.Plain.{usableOf}
 use Rattle.faults.specs.Profile.{profileOf}
+use Rattle.faults.specs.declared.plain.Usable.{Usable}
+use Rattle.faults.specs.declared.profile.Profile.{Profile}
 use Rattle.faults.proofs.PlainOpcodes.{NoBranch}
 use Rattle.faults.proofs.PlainToken.{PlainToken}
-use Rattle.verifier.specs.Pass.{passedUnless}
+use Rattle.verifier.specs.Pass.{passedUnless, Passes}
 use Rattle.verifier.specs.State.{flowOfCode, isMisplaced, metTop, partedTop, withCurrent, writtenBy, wroteTop}
 use Rattle.verifier.specs.Step.{stepped, followOf, takeOf, stepOf}
 use Rattle.verifier.specs.declared.state.Flow.the-variants.{Plain}
@@ -65,10 +68,20 @@ module _ (top : Top) (token : ℕ) where
       ∙ ap (λ d. stepped noRefusal (wroteTop top d)) (p .destination)
 
 -- what the code answers of a plain token
-pub passed : (edition stage : ℕ) (unwritten : Written → Fields → Bool) (f : Fields) → PlainToken edition stage unwritten f
+passed : (edition stage : ℕ) (unwritten : Written → Fields → Bool) (f : Fields) → PlainToken edition stage unwritten f
     → (current : Written) (b : Bool) → b ≡ unwritten current f → (r : Passed) → r ≡ passedUnless b current f → r .known ≡ true
     → (top : Top) → top .current ≡ current → (token : ℕ) → stepOf top (profileOf edition stage) token f ≡ stepped noRefusal (withCurrent top (r .current))
 passed edition stage unwritten f p current true u r e k top at token = absurd (false≢true (sym (ap (λ r. r .known) e) ∙ k))
 passed edition stage unwritten f p current false u r e k top at token =
     passes top token edition stage unwritten f p (ap (λ w. unwritten w f) at ∙ sym u)
     ∙ ap (λ w. stepped noRefusal (withCurrent top w)) (ap (λ w. writtenBy w (registerOf (f .destination))) at ∙ sym (ap (λ r. r .current) e))
+
+-- By a test that tells plain tokens, with the test that goes with it of what they read: `told` and `asked` are what the code was answered.
+module _ (f : Fields) (test : Profile → Usable → Bool) (unwritten : Written → Fields → Bool)
+    (law : (edition stage : ℕ) → test (profileOf edition stage) (usableOf (profileOf edition stage)) ≡ true → PlainToken edition stage unwritten f) where
+  pub passes-by : (profile : Profile) (usable : Usable) (told : Bool) → told ≡ test profile usable → told ≡ true
+      → (current : Written) (asked : Bool) → asked ≡ unwritten current f → (r : Passed) → r ≡ passedUnless asked current f → r .known ≡ true → Passes profile usable current f (r .current)
+  passes-by profile usable told tells holds current asked asks r made known edition stage of used top at token =
+      passed edition stage unwritten f
+      (law edition stage (ap₂ test (sym of) (sym (used ∙ ap usableOf of)) ∙ sym tells ∙ holds))
+      current asked asks r made known top at token

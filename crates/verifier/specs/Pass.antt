@@ -23,6 +23,6 @@ passedUnless false current f = record { known = true; current = writtenBy curren
 -- the step of the token, wherever it stands and whatever branches are open, finds no fault and leaves this set
 abbrev pub Passes : Profile → Usable → Written → Fields → Written → Type 0
 Passes profile usable current f next =
-    (edition stage : ℕ) → profile ≡ profileOf edition stage → usable ≡ usableOf stage (profile .counts)
+    (edition stage : ℕ) → profile ≡ profileOf edition stage → usable ≡ usableOf profile
     → (top : Top) → top .current ≡ current → (token : ℕ)
     → stepOf top (profileOf edition stage) token f ≡ stepped noRefusal (withCurrent top next)

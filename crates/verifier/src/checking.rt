@@ -59,7 +59,7 @@ fn check_tokens(edition: u32, bytes: &[u8]) -> Checked
     let stage = bytes[6];
     let count = (bytes.len() - 7) / 24;
     let profile = faults::profile_of(edition, stage);
-    let usable = faults::usable_of(stage, profile.counts);
+    let usable = faults::usable_of(profile);
     let mut state = state::START;
     let mut token = 0;
     while token < count {

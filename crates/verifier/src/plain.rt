@@ -1,10 +1,10 @@
 // Tokens that are passed at a glance: plain ones that read nothing unwritten. Most are. They leave branches alone, so the set at hand is all
 // of the state that they touch.
-ghost use mathlib.Core.Bool.{true};
+ghost use mathlib.Core.Bool.{true, false};
 ghost use mathlib.Core.Path.{_≡_};
 ghost use Rattle.verifier.specs.Pass.{Passes, passedUnless};
 use crate::state;
-use components::access;
+use components::plain;
 use components::written::Written;
 use faults::plain::Usable;
 use faults::profile::Profile;
@@ -19,15 +19,27 @@ pub struct Passed {
 pub(crate) fn pass(profile: Profile, usable: Usable, current: Written, f: Fields) -> Passed
     ensures { λ r. ⌜ (r .known ≡ true → Passes profile usable current f (r .current)) ⌝ }
 {
+    if layout::is_indexed(f.source1 | f.source2) {
+        if faults::is_plain_indexed(usable, f) {
+            return passed_unless(plain::indexed_unwritten(current, f), current, f);
+        }
+        return unknown(current);
+    }
     if faults::is_plain(usable, f) {
-        return passed_unless(access::plain_unwritten(current, f), current, f);
+        return passed_unless(plain::plain_unwritten(current, f), current, f);
     }
     if faults::is_plain_matrix(usable, f) {
-        return passed_unless(access::matrix_unwritten(current, f), current, f);
+        return passed_unless(plain::matrix_unwritten(current, f), current, f);
     }
     if faults::is_plain_tex(profile, usable, f) {
-        return passed_unless(access::tex_unwritten(current, f), current, f);
+        return passed_unless(plain::tex_unwritten(current, f), current, f);
     }
+    unknown(current)
+}
+
+fn unknown(current: Written) -> Passed
+    ensures { λ r. ⌜ r ≡ record { known = false; current = current } ⌝ }
+{
     Passed {
         known: false,
         current,
@@ -39,10 +51,7 @@ fn passed_unless(unwritten: bool, current: Written, f: Fields) -> Passed
     ensures { λ r. ⌜ r ≡ passedUnless unwritten current f ⌝ }
 {
     if unwritten {
-        return Passed {
-            known: false,
-            current,
-        };
+        return unknown(current);
     }
     let next = state::written_by(current, layout::unpack_register(f.destination));
     Passed {

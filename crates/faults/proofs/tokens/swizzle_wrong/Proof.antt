@@ -1,14 +1,13 @@
 -- `swizzle_wrong` meets its contract.
 -- Assumes nothing.
 use mathlib.Core.Path.{sym}
-use native.Mathlib.Omega.{arith}
-use Rattle.faults.proofs.PlainOpcodes.{not-swizzled}
+use Rattle.faults.proofs.PlainOpcodes.{low-ordinary}
 use borrow.Author.Needs.{needs}
 use Rattle.faults.proofs.tokens.swizzle_wrong.Statement.{statement}
 use Rattle.faults.proofs.tokens.swizzle_wrong.Tie as tie
 
 returns : tie.Need-returns
-returns c = let a = c .before .args in sym (not-swizzled (a .second) (a .opcode) (a .swizzle) (λ low high. omega (arith, c .if1 .taken)))
+returns c = let a = c .before .args in sym (low-ordinary (a .opcode) (c .if1 .taken) .swizzle (a .second) (a .swizzle))
 
 matrix-swizzled-requires : tie.Need-matrix-swizzled-requires
 matrix-swizzled-requires c κs = search needs

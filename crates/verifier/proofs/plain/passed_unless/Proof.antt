@@ -4,8 +4,11 @@ use borrow.Author.Needs.{needs}
 use Rattle.verifier.proofs.plain.passed_unless.Statement.{statement}
 use Rattle.verifier.proofs.plain.passed_unless.Tie as tie
 
+unknown-requires : tie.Need-unknown-requires
+unknown-requires c κs = search needs
+
 returns : tie.Need-returns
-returns c = simp (c .if1 .taken)
+returns c = simp (c .before .if1 .taken, c .unknown .ensures)
 
 unpack-register-requires : tie.Need-unpack-register-requires
 unpack-register-requires c κs = search needs
@@ -18,4 +21,5 @@ returns-2 c = simp (c .before .before .if1 .left, c .written-by .ensures, c .bef
 
 pub passed-unless-spec : {M : Type 1} → statement M
 passed-unless-spec =
-    tie.close (tie.spec returns unpack-register-requires written-by-requires returns-2)
+    tie.close
+    (tie.spec unknown-requires returns unpack-register-requires written-by-requires returns-2)

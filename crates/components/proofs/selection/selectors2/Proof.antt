@@ -3,8 +3,8 @@
 use borrow.Author.Needs.{needs}
 use Rattle.components.specs.Access.{selectorSet2}
 use Rattle.components.proofs.Among.{by-three2, by-four2}
-use Rattle.components.proofs.access.selectors2.Statement.{statement}
-use Rattle.components.proofs.access.selectors2.Tie as tie
+use Rattle.components.proofs.selection.selectors2.Statement.{statement}
+use Rattle.components.proofs.selection.selectors2.Tie as tie
 
 among-requires : tie.Need-among-requires
 among-requires c κs = search needs

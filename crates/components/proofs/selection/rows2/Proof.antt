@@ -4,8 +4,8 @@ use mathlib.Core.Path.{sym}
 use native.Mathlib.Omega.{arith}
 use Rattle.components.specs.Reads.{rowCount2}
 use Rattle.components.proofs.Among.{one-row, three-rows}
-use Rattle.components.proofs.access.rows2.Statement.{statement}
-use Rattle.components.proofs.access.rows2.Tie as tie
+use Rattle.components.proofs.selection.rows2.Statement.{statement}
+use Rattle.components.proofs.selection.rows2.Tie as tie
 
 returns : tie.Need-returns
 returns c = sym (one-row _ (λ low high. omega arith))

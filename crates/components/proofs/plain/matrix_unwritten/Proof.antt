@@ -2,8 +2,8 @@
 -- Assumes nothing.
 use Rattle.components.specs.Access.{matrixUnwritten}
 use borrow.Author.Needs.{needs}
-use Rattle.components.proofs.access.matrix_unwritten.Statement.{statement}
-use Rattle.components.proofs.access.matrix_unwritten.Tie as tie
+use Rattle.components.proofs.plain.matrix_unwritten.Statement.{statement}
+use Rattle.components.proofs.plain.matrix_unwritten.Tie as tie
 
 unpack-register-requires : tie.Need-unpack-register-requires
 unpack-register-requires c κs = search needs

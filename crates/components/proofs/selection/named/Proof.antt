@@ -2,8 +2,8 @@
 -- Assumes nothing.
 use borrow.Author.Needs.{needs}
 use Rattle.components.specs.Access.{namedSet}
-use Rattle.components.proofs.access.named.Statement.{statement}
-use Rattle.components.proofs.access.named.Tie as tie
+use Rattle.components.proofs.selection.named.Statement.{statement}
+use Rattle.components.proofs.selection.named.Tie as tie
 
 chosen-requires : tie.Need-chosen-requires
 chosen-requires c κs = search needs

@@ -3,8 +3,8 @@
 use borrow.Author.Needs.{needs}
 use native.Mathlib.Omega.{arith}
 use lib.Pow.{shl-exact}
-use Rattle.components.proofs.access.chosen.Statement.{statement}
-use Rattle.components.proofs.access.chosen.Tie as tie
+use Rattle.components.proofs.selection.chosen.Statement.{statement}
+use Rattle.components.proofs.selection.chosen.Tie as tie
 
 shl-result : tie.Need-shl-result
 shl-result c = search needs

@@ -8,8 +8,8 @@ use Rattle.layout.specs.Records.{directOf, registerOf}
 use Rattle.components.specs.Access.{namedSet, selectorSet1, selectorSet2, plainUnwritten}
 use Rattle.components.proofs.AccessLaws.{none-missing}
 use borrow.Author.Needs.{needs}
-use Rattle.components.proofs.access.plain_unwritten.Statement.{statement}
-use Rattle.components.proofs.access.plain_unwritten.Tie as tie
+use Rattle.components.proofs.plain.plain_unwritten.Statement.{statement}
+use Rattle.components.proofs.plain.plain_unwritten.Tie as tie
 
 lacks-some-requires : tie.Need-lacks-some-requires
 lacks-some-requires c κs = search needs

@@ -1,8 +1,8 @@
 -- `coordinates` meets its contract.
 -- Assumes nothing.
 use borrow.Author.Tests.{eq-eqb, ne-eqb}
-use Rattle.components.proofs.access.coordinates.Statement.{statement}
-use Rattle.components.proofs.access.coordinates.Tie as tie
+use Rattle.components.proofs.selection.coordinates.Statement.{statement}
+use Rattle.components.proofs.selection.coordinates.Tie as tie
 
 returns : tie.Need-returns
 returns c = simp (eq-eqb _ _ (c .if1 .taken))

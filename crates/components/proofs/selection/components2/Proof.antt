@@ -6,8 +6,8 @@ use borrow.Author.Needs.{needs}
 use borrow.Author.Tests.{eq-eqb}
 use Rattle.components.specs.Access.{readSet2}
 use Rattle.components.proofs.Among.{by-selectors, four-of-rows}
-use Rattle.components.proofs.access.components2.Statement.{statement}
-use Rattle.components.proofs.access.components2.Tie as tie
+use Rattle.components.proofs.selection.components2.Statement.{statement}
+use Rattle.components.proofs.selection.components2.Tie as tie
 
 selected2-requires : tie.Need-selected2-requires
 selected2-requires c κs = search needs

@@ -5,8 +5,8 @@ use borrow.Author.Needs.{needs}
 use borrow.Author.Tests.{eq-eqb, ne-eqb}
 use Rattle.components.specs.Access.{selectorSet1}
 use Rattle.components.proofs.Among.{by-mask, by-three1, by-four1}
-use Rattle.components.proofs.access.selectors1.Statement.{statement}
-use Rattle.components.proofs.access.selectors1.Tie as tie
+use Rattle.components.proofs.selection.selectors1.Statement.{statement}
+use Rattle.components.proofs.selection.selectors1.Tie as tie
 
 among-requires : tie.Need-among-requires
 among-requires c κs = search needs

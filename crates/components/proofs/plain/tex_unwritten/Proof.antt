@@ -2,8 +2,8 @@
 -- Assumes nothing.
 use Rattle.components.specs.Access.{texUnwritten}
 use borrow.Author.Needs.{needs}
-use Rattle.components.proofs.access.tex_unwritten.Statement.{statement}
-use Rattle.components.proofs.access.tex_unwritten.Tie as tie
+use Rattle.components.proofs.plain.tex_unwritten.Statement.{statement}
+use Rattle.components.proofs.plain.tex_unwritten.Tie as tie
 
 unpack-sampler-requires : tie.Need-unpack-sampler-requires
 unpack-sampler-requires c κs = search needs

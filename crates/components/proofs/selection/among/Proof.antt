@@ -2,8 +2,8 @@
 -- Assumes nothing.
 use borrow.Author.Needs.{needs}
 use borrow.Author.Tests.{lt-ltb, le-ltb}
-use Rattle.components.proofs.access.among.Statement.{statement}
-use Rattle.components.proofs.access.among.Tie as tie
+use Rattle.components.proofs.selection.among.Statement.{statement}
+use Rattle.components.proofs.selection.among.Tie as tie
 
 returns : tie.Need-returns
 returns c = simp (le-ltb _ _ (c .if1 .taken))

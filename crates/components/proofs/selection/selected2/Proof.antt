@@ -1,8 +1,8 @@
 -- `selected2` meets its contract.
 -- Assumes nothing.
 use borrow.Author.Needs.{needs}
-use Rattle.components.proofs.access.selected2.Statement.{statement}
-use Rattle.components.proofs.access.selected2.Tie as tie
+use Rattle.components.proofs.selection.selected2.Statement.{statement}
+use Rattle.components.proofs.selection.selected2.Tie as tie
 
 selectors2-requires : tie.Need-selectors2-requires
 selectors2-requires c κs = search needs
