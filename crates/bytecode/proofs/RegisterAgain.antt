@@ -17,7 +17,7 @@ use Rattle.layout.proofs.Rows.{Rising, Fit, pack, values-again}
 use Rattle.layout.proofs.Stray.{all-kept, none-stray}
 use Rattle.laws.proofs.Every.{left, right}
 
-rising : Rising 0 destinationRows
+pub rising : Rising 0 destinationRows
 rising = (lit≤ tt, (lit≤ tt, (lit≤ tt, tt)))
 
 valuesOf : MaskedRegister → List ℕ

@@ -20,7 +20,7 @@ use Rattle.layout.proofs.Rows.{Rising, Fit, pack, values, values-again}
 use Rattle.layout.proofs.Stray.{all-kept, none-stray}
 use Rattle.laws.proofs.Every.{left, right}
 
-rising : Rising 0 sourceRows
+pub rising : Rising 0 sourceRows
 rising = (lit≤ tt, (lit≤ tt, (lit≤ tt, (lit≤ tt, (lit≤ tt, (lit≤ tt, (lit≤ tt, tt)))))))
 
 packed : (n o s t i q d : ℕ) → sourceField n o s t i q d ≡ pack sourceRows (n ∷ o ∷ s ∷ t ∷ i ∷ q ∷ d ∷ [])

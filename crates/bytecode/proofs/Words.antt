@@ -28,12 +28,12 @@ written-out : (s : List ℕ) → s ≡ listOf (λ i. getD s i 0) (length s)
 written-out [] = refl
 written-out (b ∷ s) = ap (λ r. b ∷ r) (written-out s)
 
-abbrev fourBytes : ℕ → ℕ → ℕ → ℕ → ℕ
+abbrev pub fourBytes : ℕ → ℕ → ℕ → ℕ → ℕ
 fourBytes a b c d = a + 256 * b + 65536 * c + 16777216 * d
 
 module _ (a b c d : ℕ) (ha : a < 256) (hb : b < 256) (hc : c < 256) (hd : d < 256) where
   -- the bytes of a number whose low four bytes are these
-  long-bytes : (h : ℕ) → wordBytes (fourBytes a b c d + 2 ^ 32 * h) ≡ a ∷ b ∷ c ∷ d ∷ []
+  pub long-bytes : (h : ℕ) → wordBytes (fourBytes a b c d + 2 ^ 32 * h) ≡ a ∷ b ∷ c ∷ d ∷ []
   long-bytes h =
       let w = fourBytes a b c d + 2 ^ 32 * h in
       let low : w % 256 ≡ a = omega arith in
