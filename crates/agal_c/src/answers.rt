@@ -1,7 +1,7 @@
 // What the exported functions answer, as C reads it: `include/agal.h` has the same struct.
 ghost use mathlib.Core.Path.{_≡_};
 ghost use Rattle.agal_c.specs.Answers.{answered as answeredOf, refused as refusedOf};
-ghost use Rattle.agal_c.specs.Calls.{encodedAnswer, printedAnswer};
+ghost use Rattle.agal_c.specs.Calls.{codeAnswer, encodedAnswer, printedAnswer};
 use bytecode::answers::Encoded;
 use bytecode::answers::Refusal;
 use listing::answers::Printed;
@@ -52,6 +52,16 @@ pub(crate) fn refused_at(number: u8, part: u8, place: usize) -> Answer
         token: place,
         value: place,
     }
+}
+
+// What `deliver` returned of the token at a place: the next place, or the fault, at that place.
+pub(crate) fn delivered(code: u32, place: usize, next: usize) -> Answer
+    ensures { λ r. ⌜ r ≡ codeAnswer code place next ⌝ }
+{
+    if code == 0 {
+        return answered(0, next);
+    }
+    refused_at((code % 256) as u8, (code / 256 % 256) as u8, place)
 }
 
 // What encode answered: 24 bytes are written.

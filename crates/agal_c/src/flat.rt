@@ -2,17 +2,15 @@
 // have their lowest byte first.
 ghost use Prim.Native.Nat.{_+_, _*_, _≤_};
 ghost use mathlib.Core.Path.{_≡_};
+ghost use mathlib.Core.Bool.{true, false, cond};
 ghost use mathlib.Core.List.{_++_};
 ghost use lib.ListN.{length, drop};
-ghost use Rattle.layout.specs.Layout.{wordBytes};
+ghost use Rattle.layout.specs.Layout.{wordBytes, sourceRows, definedBits, destinationBits, operandBits, isStray};
 ghost use Rattle.layout.specs.Records.{destinationOf, operandOf, tokenOf};
-ghost use Rattle.bytecode.specs.Decode.{decodeOf};
-ghost use Rattle.reader.specs.Reading.{standsAt};
-ghost use Rattle.agal_c.specs.Calls.{HasNextPlace, deliveryAnswer, delivered};
-ghost use Rattle.agal_c.specs.Values.{destinationValues, operandValues};
+ghost use Rattle.bytecode.specs.Decode.{isClean, decodeOf};
+ghost use Rattle.agal_c.specs.Calls.{outrightFault, deliveryCode, delivered};
+ghost use Rattle.agal_c.specs.Values.{sourceValues, destinationValues, operandValues};
 ghost use Rattle.agal_c.specs.Flat.{destinationBytes, operandBytes, withBytes, flatOf, isFlat, valuesAt, tokenOfFlat};
-use crate::answers;
-use crate::answers::Answer;
 use crate::values;
 use crate::values::Values;
 use layout::fields::Fields;
@@ -21,74 +19,104 @@ use layout::opcodes::OperandShape;
 use layout::opcodes::Shape;
 use layout::record::Token;
 
-// Writes the flat form of the token at a place, `step` before the next one, or answers its first fault; 23 where the lent buffer has no room
-// for a flat form.
-pub(crate) fn deliver(token: &[u8], place: usize, step: usize, flat: &mut [u8]) -> Answer
-    requires { ⌜ HasNextPlace place step (standsAt place (decodeOf (now token))) ⌝ }
-    ensures { λ r. ⌜ r ≡ deliveryAnswer place step (standsAt place (decodeOf (now (token .entry)))) (now (flat .entry)) ⌝ }
-    ensures { λ _. ⌜ now (flat .exit) ≡ delivered (standsAt place (decodeOf (now (token .entry)))) (now (flat .entry)) ⌝ }
+// The fault that is told before any field is looked into: 24 where the bytes are no whole token, 9 where the opcode is not listed, else 0.
+// It is small enough to be compiled into its callers, so that such bytes cost no further call.
+pub(crate) fn outright_fault(token: &[u8]) -> u8
+    ensures { λ r. ⌜ r ≡ outrightFault (now (token .entry)) ⌝ }
 {
     if token.len() != 24 {
-        return answers::refused_at(24, 0, place);
+        return 24;
     }
+    let f = bytecode::fields_of(token);
+    let shape = opcodes::shape_of(f.opcode);
+    if shape.listed { 0 } else { 9 }
+}
+
+// Writes the flat form of a token and returns 0, or returns the token's first fault, its number and 256 times its part; 23 where the lent
+// buffer has no room for a flat form. A number comes back in a register, where a struct would be written to memory and read from it at once.
+pub(crate) fn deliver(token: &[u8], flat: &mut [u8]) -> u32
+    requires { ⌜ length (now token) ≡ 24 ⌝ }
+    ensures { λ r. ⌜ r ≡ deliveryCode (decodeOf (now (token .entry))) (now (flat .entry)) ⌝ }
+    ensures { λ _. ⌜ now (flat .exit) ≡ delivered (decodeOf (now (token .entry))) (now (flat .entry)) ⌝ }
+{
     let f = bytecode::fields_of(token);
     let shape = opcodes::shape_of(f.opcode);
     if !bytecode::is_clean(shape, f) {
         let fault = bytecode::fault_of(shape, f);
-        return answers::refused_at(fault.number, fault.part, place);
+        return fault.number as u32 + 256 * fault.part as u32;
     }
     if flat.len() < 29 {
-        return answers::refused_at(23, 0, place);
+        return 23;
     }
     put_token(shape, f, flat);
-    answers::answered(0, place + step)
+    0
 }
 
-// Writes the flat form of the record that fields make to the first 29 bytes. No record is made: each part is written from its field.
+// Writes the flat form of the record that fields make to the first 29 bytes. No record is made: where no undefined bit is set, the bytes of
+// a field are its values, in the order of the flat form.
 fn put_token(shape: Shape, f: Fields, out: &mut [u8])
     requires { ⌜ 29 ≤ length (now out) ⌝ }
+    requires { ⌜ isClean shape f ≡ true ⌝ }
     ensures { λ _. ⌜ now (out .exit) ≡ flatOf (tokenOf shape f) ++ drop 29 (now (out .entry)) ⌝ }
 {
     let shape1 = shape.source1;
     let shape2 = shape.source2;
-    put_opcode(out, f.opcode);
+    put_word(out, 0, f.opcode as u64);
     put_destination(out, shape.destination, f.destination);
     put_operand(out, 9, shape1, f.source1);
     put_operand(out, 19, shape2, f.source2);
 }
 
-fn put_opcode(out: &mut [u8], opcode: u32)
-    requires { ⌜ 4 ≤ length (now out) ⌝ }
-    ensures { λ _. ⌜ now (out .exit) ≡ withBytes (now (out .entry)) 0 (wordBytes opcode) ⌝ }
-{
-    out[0] = (opcode % 256) as u8;
-    out[1] = (opcode / 256 % 256) as u8;
-    out[2] = (opcode / 65536 % 256) as u8;
-    out[3] = (opcode / 16777216 % 256) as u8;
-}
-
 fn put_destination(out: &mut [u8], used: bool, field: u64)
     requires { ⌜ 9 ≤ length (now out) ⌝ }
+    requires { ⌜ isStray (destinationBits used) field ≡ false ⌝ }
     ensures { λ _. ⌜ now (out .exit) ≡ withBytes (now (out .entry)) 4 (destinationBytes (destinationValues (destinationOf used field))) ⌝ }
 {
-    let v = values::destination_values(used, field);
-    out[4] = v.form;
-    out[5] = (v.number % 256) as u8;
-    out[6] = (v.number / 256) as u8;
-    out[7] = v.first;
-    out[8] = v.second;
+    out[4] = used as u8;
+    put_word(out, 5, field);
 }
 
-// Each arm stores its own values. Stored where the arms meet, every value would go through memory first.
+// An unused field is 0, and is written as a source is, whose values are then 0. Each arm stores its own bytes: stored where the arms meet,
+// every value of a sampler would go through memory first.
 fn put_operand(out: &mut [u8], at: usize, shape: OperandShape, field: u64)
     requires { ⌜ at + 10 ≤ length (now out) ⌝ }
+    requires { ⌜ isStray (operandBits shape) field ≡ false ⌝ }
     ensures { λ _. ⌜ now (out .exit) ≡ withBytes (now (out .entry)) at (operandBytes (operandValues (operandOf shape field))) ⌝ }
 {
     match shape {
-        OperandShape::Unused => put_values(out, at, values::no_values()),
-        OperandShape::Source => put_values(out, at, values::source_values(field)),
+        OperandShape::Unused => put_source(out, at, 0, field),
+        OperandShape::Source => put_source(out, at, source_form(layout::is_indexed(field)), field),
         OperandShape::Sampler => put_values(out, at, values::sampler_values(field)),
     }
+}
+
+fn source_form(indexed: bool) -> u8
+    ensures { λ r. ⌜ r ≡ cond indexed 2 1 ⌝ }
+{
+    if indexed { 2 } else { 1 }
+}
+
+// A form and the values of a source: the bytes of its field without D, which the form tells, and 0, where a sampler has its last value.
+fn put_source(out: &mut [u8], at: usize, form: u8, field: u64)
+    requires { ⌜ at + 10 ≤ length (now out) ⌝ }
+    requires { ⌜ isStray (definedBits sourceRows) field ≡ false ⌝ }
+    ensures { λ _. ⌜ now (out .exit) ≡ withBytes (now (out .entry)) at (operandBytes (sourceValues form field)) ⌝ }
+{
+    out[at] = form;
+    put_word(out, at + 1, field);
+    put_word(out, at + 5, field % 0x8000_0000_0000_0000 / 0x1_0000_0000);
+    out[at + 9] = 0;
+}
+
+// The low four bytes of a number, the lowest first. The compiler makes one store of the four, since all are bytes of one number.
+fn put_word(out: &mut [u8], at: usize, word: u64)
+    requires { ⌜ at + 4 ≤ length (now out) ⌝ }
+    ensures { λ _. ⌜ now (out .exit) ≡ withBytes (now (out .entry)) at (wordBytes word) ⌝ }
+{
+    out[at] = (word % 256) as u8;
+    out[at + 1] = (word / 256 % 256) as u8;
+    out[at + 2] = (word / 65536 % 256) as u8;
+    out[at + 3] = (word / 16777216 % 256) as u8;
 }
 
 fn put_values(out: &mut [u8], at: usize, v: Values)

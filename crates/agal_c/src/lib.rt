@@ -33,7 +33,11 @@ pub extern "C" fn agal_decode(token: &[u8], flat: &mut [u8]) -> Answer
     ensures { λ r. ⌜ r ≡ deliveryAnswer 0 29 (decodeOf (now (token .entry))) (now (flat .entry)) ⌝ }
     ensures { λ _. ⌜ now (flat .exit) ≡ delivered (decodeOf (now (token .entry))) (now (flat .entry)) ⌝ }
 {
-    flat::deliver(token, 0, 29, flat)
+    let fault = flat::outright_fault(token);
+    if fault != 0 {
+        return answers::refused_at(fault, 0, 0);
+    }
+    answers::delivered(flat::deliver(token, flat), 0, 29)
 }
 
 // The step of a reader that has read `place` tokens: the flat form of the next, and the place after it.
@@ -42,7 +46,12 @@ pub extern "C" fn agal_read(program: &[u8], place: usize, flat: &mut [u8]) -> An
     ensures { λ r. ⌜ r ≡ deliveryAnswer place 1 (readOf (now (program .entry)) place) (now (flat .entry)) ⌝ }
     ensures { λ _. ⌜ now (flat .exit) ≡ delivered (readOf (now (program .entry)) place) (now (flat .entry)) ⌝ }
 {
-    flat::deliver(reader::token_bytes(program, place), place, 1, flat)
+    let token = reader::token_bytes(program, place);
+    let fault = flat::outright_fault(token);
+    if fault != 0 {
+        return answers::refused_at(fault, 0, place);
+    }
+    answers::delivered(flat::deliver(token, flat), place, place + 1)
 }
 
 // Encodes a flat form into 24 bytes. What is no flat form is 25, as a record that is not encodable is.

@@ -1,8 +1,7 @@
 // The values of a destination or a source, whatever its kind: what the flat form has a place for.
 ghost use mathlib.Core.Path.{_≡_};
-ghost use mathlib.Core.Bool.{cond};
-ghost use Rattle.layout.specs.Records.{destinationOf, sourceOf, samplerOf};
-ghost use Rattle.agal_c.specs.Values.{values as valuesOf, destinationValues, samplerValues, operandValues, destinationFrom, samplerFrom, operandFrom};
+ghost use Rattle.layout.specs.Records.{samplerOf};
+ghost use Rattle.agal_c.specs.Values.{samplerValues, destinationFrom, samplerFrom, operandFrom};
 use layout::record::Destination;
 use layout::record::DirectSource;
 use layout::record::IndexedSource;
@@ -23,70 +22,6 @@ pub(crate) struct Values {
     pub fifth: u8,
     pub sixth: u8,
     pub seventh: u8,
-}
-
-pub(crate) fn destination_values(used: bool, field: u64) -> Values
-    ensures { λ r. ⌜ r ≡ destinationValues (destinationOf used field) ⌝ }
-{
-    if used {
-        let m = layout::unpack_register(field);
-        return five_values(1, m.number, m.mask, m.kind, 0, 0, 0);
-    }
-    no_values()
-}
-
-pub(crate) fn no_values() -> Values
-    ensures { λ r. ⌜ r ≡ valuesOf 0 0 0 0 0 0 0 0 0 ⌝ }
-{
-    five_values(0, 0, 0, 0, 0, 0, 0)
-}
-
-// A direct and an indexed source have the same rows.
-pub(crate) fn source_values(field: u64) -> Values
-    ensures { λ r. ⌜ r ≡ operandValues (sourceOf field) ⌝ }
-{
-    let s = layout::unpack_direct(field);
-    let form = source_form(layout::is_indexed(field));
-    five_values(
-        form,
-        s.number,
-        s.offset,
-        s.swizzle,
-        s.kind,
-        s.index_kind,
-        s.component,
-    )
-}
-
-fn source_form(indexed: bool) -> u8
-    ensures { λ r. ⌜ r ≡ cond indexed 2 1 ⌝ }
-{
-    if indexed { 2 } else { 1 }
-}
-
-// The form, the number and all values but those that a sampler alone has.
-fn five_values(
-    form: u8,
-    number: u16,
-    first: u8,
-    second: u8,
-    third: u8,
-    fourth: u8,
-    fifth: u8,
-) -> Values
-    ensures { λ r. ⌜ r ≡ valuesOf form number first second third fourth fifth 0 0 ⌝ }
-{
-    Values {
-        form,
-        number,
-        first,
-        second,
-        third,
-        fourth,
-        fifth,
-        sixth: 0,
-        seventh: 0,
-    }
 }
 
 pub(crate) fn sampler_values(field: u64) -> Values

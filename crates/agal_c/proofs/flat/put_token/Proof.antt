@@ -9,6 +9,7 @@ use denote.Ref.{now}
 use borrow.Author.Needs.{needs}
 use Rattle.layout.specs.Layout.{wordBytes}
 use Rattle.layout.specs.Records.{tokenOf}
+use Rattle.bytecode.proofs.DecodeLaws.{clean-by}
 use Rattle.agal_c.specs.Values.{destinationValues, operandValues}
 use Rattle.agal_c.specs.Flat.{destinationBytes, operandBytes, withBytes, flatBytes, flatOf}
 use Rattle.agal_c.specs.declared.values.Values.{Values}
@@ -28,17 +29,23 @@ together opcode d v w buffer b₁ b₂ b₃ b₄ h p q r s =
     (r ∙ ap (λ b. withBytes b 9 (operandBytes v)) (q ∙ ap (λ b. withBytes b 4 (destinationBytes d)) p))
     ∙ sets-eq (flatBytes opcode d v w) buffer 0 h
 
-put-opcode-requires : tie.Need-put-opcode-requires
-put-opcode-requires c κs = search needs
+cast-put-word : tie.Need-cast-put-word
+cast-put-word c = search needs
+
+put-word-requires : tie.Need-put-word-requires
+put-word-requires c κs = search needs
 
 put-destination-requires : tie.Need-put-destination-requires
-put-destination-requires c κs = search needs
+put-destination-requires c κs =
+    (search needs, clean-by _ _ (c .before .before .before .before .before .before .before .pre .1) .destination)
 
 put-operand-requires : tie.Need-put-operand-requires
-put-operand-requires c κs = search needs
+put-operand-requires c κs =
+    (search needs, clean-by _ _ (c .before .before .before .before .before .before .before .before .before .before .before .pre .1) .source1)
 
 put-operand-requires-2 : tie.Need-put-operand-requires-2
-put-operand-requires-2 c κs = search needs
+put-operand-requires-2 c κs =
+    (search needs, clean-by _ _ (c .before .before .before .before .before .before .before .before .before .before .before .before .before .before .before .pre .1) .source2)
 
 same-length : tie.Need-same-length
 same-length c = search needs
@@ -46,10 +53,10 @@ same-length c = search needs
 returns : tie.Need-returns
 unfolding flatOf tokenOf
 returns c =
-    let a = c .before .before .before .before .before .before .before .before .before .before .before .before .before .before .before .before .before in
+    let a = c .before .before .before .before .before .before .before .before .before .before .before .before .before .before .before .before .before .before in
     let t = tokenOf (a .args .shape) (a .args .f) in
-    together _ (destinationValues (t .destination)) (operandValues (t .source1)) (operandValues (t .source2)) (now (a .args .out)) _ _ _ _ (a .pre)
-    (c .before .before .before .before .before .before .before .before .before .before .before .before .before .before .put-opcode .ensures)
+    together _ (destinationValues (t .destination)) (operandValues (t .source1)) (operandValues (t .source2)) (now (a .args .out)) _ _ _ _ (a .pre .0)
+    (c .before .before .before .before .before .before .before .before .before .before .before .before .before .before .put-word .ensures)
     (c .before .before .before .before .before .before .before .before .before .before .put-destination .ensures)
     (c .before .before .before .before .before .before .put-operand .ensures)
     (c .before .before .put-operand2 .ensures)
@@ -58,7 +65,8 @@ pub put-token-spec : {M : Type 1} → statement M
 put-token-spec =
     tie.close
     (tie.spec
-    put-opcode-requires
+    cast-put-word
+    put-word-requires
     put-destination-requires
     put-operand-requires
     put-operand-requires-2
