@@ -53,7 +53,7 @@ pub(crate) fn deliver(token: &[u8], flat: &mut [u8]) -> u32
 }
 
 // Writes the flat form of the record that fields make to the first 29 bytes. No record is made: where no undefined bit is set, the bytes of
-// a field are its values, in the order of the flat form.
+// a destination's or a source's field are its values, in the order of the flat form.
 fn put_token(shape: Shape, f: Fields, out: &mut [u8])
     requires { ⌜ 29 ≤ length (now out) ⌝ }
     requires { ⌜ isClean shape f ≡ true ⌝ }
