@@ -1,24 +1,24 @@
 -- The loop of the check: where it starts, one turn of it, and where it ends.
 -- Assumes nothing.
 use Prim.Native.Nat.{ℕ, zero, suc, _+_, _-_, _*_, _/_, _%_, _^_, _≤_, _<_}
-use mathlib.Core.Bool.{Bool, true, false, cond}
+use mathlib.Core.Bool.{Bool, true, false, not, cond}
 use mathlib.Core.List.{List, []}
 use mathlib.Core.Path.{_≡_, refl, _∙_, sym, ap, ap₂, subst, subst⁻¹, fun-ext}
 use native.Mathlib.Nat.{zero-div}
 use native.Mathlib.Numerals.{add-one}
 use native.Mathlib.Omega.{arith}
-use lib.Dec.{ltb}
+use lib.Dec.{ltb, leb}
 use lib.ListN.{length, take, drop, length-take, length-drop}
-use borrow.Author.Tests.{eq-eqb, ne-eqb, le-ltb}
+use borrow.Author.Tests.{eq-eqb, ne-eqb, le-ltb, leb-true, not-true}
+use Rattle.laws.proofs.Every.{left as both-left, right as both-right}
 use Rattle.paths.specs.Unwritten.{nothing}
 use Rattle.components.specs.Written.{componentSet, halfOf}
 use Rattle.paths.specs.Faults as faults
 use Rattle.paths.specs.Check.{start, ending, checkFrom, verdictOf}
 use Rattle.faults.specs.Rules.{stageOf, tokenCount}
 use Rattle.faults.specs.Profile.{profileOf}
-use Rattle.bytecode.specs.Decode.{noRefusal, isClean, tokenFault}
+use Rattle.bytecode.specs.Decode.{refusal, noRefusal, isClean, tokenFault}
 use Rattle.bytecode.specs.Fields.{fieldsOf, fieldsIn}
-use Rattle.bytecode.specs.declared.answers.Refusal.{Refusal}
 use Rattle.layout.specs.Opcodes.{shapeOf}
 use Rattle.faults.specs.Faults.{undecodedFault}
 use Rattle.components.specs.declared.written.Written.{Written}
@@ -26,7 +26,7 @@ use Rattle.layout.specs.declared.fields.Fields.{Fields}
 use Rattle.faults.specs.Order.{tokenAt, tokensFrom, tokensOf}
 use Rattle.verifier.specs.State.{noneWritten, startState, topOf, withTop, withCurrent}
 use Rattle.verifier.specs.Step.{stepped, stepOf}
-use Rattle.verifier.specs.Verdict.{answerOf, Settles}
+use Rattle.verifier.specs.Verdict.{answerOf, opensUnlisted}
 use Rattle.verifier.specs.Finish.{finishOf}
 use Rattle.faults.specs.declared.profile.Profile.{Profile}
 use Rattle.verifier.specs.declared.state.State.{State}
@@ -126,17 +126,18 @@ module _ (edition : ℕ) (bytes : List ℕ) where
       pub pass-goes-on : answerFrom st n (left bytes n) ≡ answerFrom next (n + 1) (left bytes (n + 1))
       pass-goes-on = goes-on (profileOf edition (stageOf bytes)) refl f read (topOf st) refl (stepped noRefusal (withCurrent (topOf st) w)) (sym passed) next put refl
 
-  -- ---- a first token that decode refuses
+  -- ---- a first token whose opcode is not listed
 
-  pub opens-faulty : 7 ≤ length bytes → 0 < tokenCount bytes → (f : Fields) → f ≡ fieldsOf (tokenAt bytes 0) → isClean (shapeOf (f .opcode)) f ≡ false
-      → (r : Refusal) → r ≡ undecodedFault (profileOf edition (stageOf bytes)) 0 (tokenFault (shapeOf (f .opcode)) f) (f .opcode) → Settles edition bytes r
-  unfolding stepOf
-  opens-faulty header l f read unclean r made z =
-      sym (stops header startState valid-start 0 l (profileOf edition (stageOf bytes)) refl f read (topOf startState) refl (stepped r (topOf startState)) refuses z)
+  pub unlisted-refused : 7 ≤ length bytes → opensUnlisted bytes ≡ true → Refused (refusal 9 0 0) ≡ answerOf bytes (verdictOf (tokensOf edition bytes))
+  unfolding opensUnlisted stepOf isClean tokenFault undecodedFault
+  unlisted-refused header e =
+      let long = leb 31 (length bytes) in
+      let f = fieldsOf (tokenAt bytes 0) in
+      let enough = leb-true 31 (length bytes) (both-left long (not (shapeOf (f .opcode) .listed)) e) in
+      let unlisted = not-true (shapeOf (f .opcode) .listed) (both-right long (not (shapeOf (f .opcode) .listed)) e) in
+      let refuses : stepped (refusal 9 0 0) (topOf startState) ≡ stepOf (topOf startState) (profileOf edition (stageOf bytes)) 0 f = rw unlisted in
+      sym (stops header startState valid-start 0 (omega (arith, enough)) (profileOf edition (stageOf bytes)) refl f refl (topOf startState) refl (stepped (refusal 9 0 0) (topOf startState)) refuses (λ z. omega (arith, z)))
       ∙ ap (answerOf bytes) begins
-    where
-      refuses : stepped r (topOf startState) ≡ stepOf (topOf startState) (profileOf edition (stageOf bytes)) 0 f
-      refuses = rw unclean (ap (λ x. stepped x (topOf startState)) made)
 
   -- ---- after the last token
 

@@ -1,16 +1,20 @@
 -- The answer of the whole check, as a definition that computes. Nobody has to believe it: what it must be is stated in Exact, over rules
 -- and paths.
 use Prim.Native.Nat.{ℕ}
+use mathlib.Core.Bool.{Bool, not, _&&_}
 use mathlib.Core.List.{List}
 use mathlib.Core.Option.{Option, none, some}
-use mathlib.Core.Path.{_≡_}
+use lib.Dec.{leb}
+use lib.ListN.{length}
+use Rattle.layout.specs.Opcodes.{shapeOf}
 use Rattle.bytecode.specs.Decode.{refusal, noRefusal}
+use Rattle.bytecode.specs.Fields.{fieldsOf}
 use Rattle.bytecode.specs.declared.answers.Refusal.{Refusal}
 use Rattle.paths.specs.Paths.{TokenFault}
 use Rattle.paths.specs.Faults.{Answer, accepted, refused}
 use Rattle.paths.specs.Check.{verdictOf}
 use Rattle.faults.specs.Rules.{stageOf, tokenCount}
-use Rattle.faults.specs.Order.{firstFault, headerRules, tokensOf}
+use Rattle.faults.specs.Order.{firstFault, headerRules, tokenAt, tokensOf}
 use Rattle.verifier.specs.declared.answers.Program.{Program}
 use Rattle.verifier.specs.declared.answers.Checked.{Checked}
 use Rattle.verifier.specs.declared.answers.Checked.the-variants.{Accepted, Refused}
@@ -23,9 +27,9 @@ abbrev pub answerOf : List ℕ → Answer → Checked
 answerOf bytes accepted = Accepted (program (stageOf bytes) (tokenCount bytes))
 answerOf bytes (refused number token part) = Refused (refusal number token part)
 
--- a refusal with a number is the answer that the tokens give
-abbrev pub Settles : ℕ → List ℕ → Refusal → Type 0
-Settles edition bytes r = (r .number ≡ 0 → ⊥) → Refused r ≡ answerOf bytes (verdictOf (tokensOf edition bytes))
+-- there is a first token, and its opcode is not listed
+unfoldable pub opensUnlisted : List ℕ → Bool
+opensUnlisted bytes = leb 31 (length bytes) && not (shapeOf (fieldsOf (tokenAt bytes 0) .opcode) .listed)
 
 -- a fault of the header, or else what the tokens give
 abbrev pub afterHeader : Option TokenFault → Checked → Checked

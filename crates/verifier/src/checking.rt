@@ -5,7 +5,7 @@ ghost use lib.ListN.{length};
 ghost use Rattle.paths.specs.Check.{verdictOf};
 ghost use Rattle.bytecode.specs.Fields.{fieldsOf};
 ghost use Rattle.faults.specs.Order.{tokenAt, tokensOf};
-ghost use Rattle.verifier.specs.Verdict.{answerOf, Settles};
+ghost use Rattle.verifier.specs.Verdict.{answerOf, opensUnlisted};
 ghost use Rattle.verifier.specs.Finish.{finishOf};
 ghost use Rattle.verifier.specs.Exact.{Checks};
 use crate::answers::Checked;
@@ -13,7 +13,6 @@ use crate::answers::Program;
 use crate::plain;
 use crate::state;
 use crate::state::Top;
-use bytecode::answers::Refusal;
 use layout::fields::Fields;
 use layout::opcodes;
 
@@ -25,30 +24,23 @@ pub fn check(edition: u32, bytes: &[u8]) -> Checked
     if fault.number != 0 {
         return Checked::Refused(fault);
     }
-    let fault = opening_fault(edition, bytes);
-    if fault.number != 0 {
-        return Checked::Refused(fault);
+    if opens_unlisted(bytes) {
+        return Checked::Refused(faults::refusal(9, 0, 0));
     }
     check_tokens(edition, bytes)
 }
 
-// The fault of the first token where decode refuses it, else number 0. Bytes that are no program mostly show there, and are refused before
-// registers are counted and a state is made.
-fn opening_fault(edition: u32, bytes: &[u8]) -> Refusal
-    requires { ⌜ 7 ≤ length (now bytes) ⌝ }
-    ensures { λ r. ⌜ Settles edition (now (bytes .entry)) r ⌝ }
+// Whether the opcode of the first token is not listed. Bytes that are no program show there, and are refused before registers are counted and
+// a state is made.
+fn opens_unlisted(bytes: &[u8]) -> bool
+    ensures { λ r. ⌜ r ≡ opensUnlisted (now (bytes .entry)) ⌝ }
 {
     if bytes.len() < 31 {
-        return faults::refusal(0, 0, 0);
+        return false;
     }
     let f = fields_at(bytes, 0);
     let shape = opcodes::shape_of(f.opcode);
-    if bytecode::is_clean(shape, f) {
-        return faults::refusal(0, 0, 0);
-    }
-    let profile = faults::profile_of(edition, bytes[6]);
-    let refused = bytecode::fault_of(shape, f);
-    faults::undecoded_fault(profile, 0, refused, f.opcode)
+    !shape.listed
 }
 
 // Faults 9 to 22 of a program that has a header.

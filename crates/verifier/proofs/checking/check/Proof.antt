@@ -11,6 +11,7 @@ use Rattle.verifier.specs.Exact.{HeaderRight}
 use Rattle.verifier.specs.declared.answers.Checked.the-variants.{Refused}
 use Rattle.verifier.proofs.HeaderLaw.{header-refuses, header-right, tokens-answer, has-header}
 use Rattle.verifier.proofs.ExactCheck.{checks}
+use Rattle.verifier.proofs.LoopLaw.{unlisted-refused}
 use Rattle.verifier.proofs.checking.check.Statement.{statement}
 use Rattle.verifier.proofs.checking.check.Tie as tie
 
@@ -29,10 +30,11 @@ returns c =
     let made = c .before .before .header-fault .ensures in
     checks edition bytes _ (ap Refused made ∙ header-refuses edition bytes (λ z. c .if1 .taken (ap (λ f. f .number) made ∙ z)))
 
-opening-fault-requires : tie.Need-opening-fault-requires
-opening-fault-requires c κs =
-    let at-start = c .before .before .before .before in
-    has-header (at-start .args .edition) (now (at-start .args .bytes)) (no-header-fault _ _ _ (c .before .before .header-fault .ensures) (c .if1 .left))
+opens-unlisted-requires : tie.Need-opens-unlisted-requires
+opens-unlisted-requires c κs = search needs
+
+refusal-requires : tie.Need-refusal-requires
+refusal-requires c κs = search needs
 
 returns-2 : tie.Need-returns-2
 returns-2 c =
@@ -40,20 +42,30 @@ returns-2 c =
     let edition = at-start .args .edition in
     let bytes = now (at-start .args .bytes) in
     let right = no-header-fault edition bytes _ (c .before .before .before .before .before .header-fault .ensures) (c .before .before .before .if1 .left) in
-    checks edition bytes _ (c .before .before .opening-fault .ensures (c .if2 .taken) ∙ sym (tokens-answer edition bytes right))
+    let unlisted = sym (c .before .before .opens-unlisted .ensures) ∙ c .before .if2 .taken in
+    checks edition bytes _ (ap Refused (c .refusal .ensures) ∙ unlisted-refused edition bytes (has-header edition bytes right) unlisted ∙ sym (tokens-answer edition bytes right))
 
 check-tokens-requires : tie.Need-check-tokens-requires
 check-tokens-requires c κs =
-    let at-start = c .before .before .before .before .before .before .before in
-    has-header (at-start .args .edition) (now (at-start .args .bytes)) (no-header-fault _ _ _ (c .before .before .before .before .before .header-fault .ensures) (c .before .before .before .if1 .left))
+    let at-start = c .before .before .before .before .before .before in
+    has-header (at-start .args .edition) (now (at-start .args .bytes)) (no-header-fault _ _ _ (c .before .before .before .before .header-fault .ensures) (c .before .before .if1 .left))
 
 returns-3 : tie.Need-returns-3
 returns-3 c =
-    let at-start = c .before .before .before .before .before .before .before .before in
+    let at-start = c .before .before .before .before .before .before .before in
     let edition = at-start .args .edition in
     let bytes = now (at-start .args .bytes) in
-    let right = no-header-fault edition bytes _ (c .before .before .before .before .before .before .header-fault .ensures) (c .before .before .before .before .if1 .left) in
+    let right = no-header-fault edition bytes _ (c .before .before .before .before .before .header-fault .ensures) (c .before .before .before .if1 .left) in
     checks edition bytes _ (c .check-tokens .ensures ∙ sym (tokens-answer edition bytes right))
 
 pub check-spec : {M : Type 1} → statement M
-check-spec = tie.close (tie.spec header-fault-requires returns opening-fault-requires returns-2 check-tokens-requires returns-3)
+check-spec =
+    tie.close
+    (tie.spec
+    header-fault-requires
+    returns
+    opens-unlisted-requires
+    refusal-requires
+    returns-2
+    check-tokens-requires
+    returns-3)
