@@ -48,12 +48,12 @@ fn check_tokens(edition: u32, bytes: &[u8]) -> Checked
     requires { ⌜ 7 ≤ length (now bytes) ⌝ }
     ensures { λ r. ⌜ r ≡ answerOf (now (bytes .entry)) (verdictOf (tokensOf edition (now (bytes .entry)))) ⌝ }
 {
+    let mut state = state::START;
+    let mut token = 0;
     let stage = bytes[6];
     let count = (bytes.len() - 7) / 24;
     let profile = faults::profile_of(edition, stage);
     let usable = faults::usable_of(profile);
-    let mut state = state::START;
-    let mut token = 0;
     while token < count {
         let f = fields_at(bytes, token);
         let current = state.current;
