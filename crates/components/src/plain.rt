@@ -16,16 +16,10 @@ pub fn plain_unwritten(current: Written, f: Fields) -> bool
         return false;
     }
     let register = layout::unpack_register(f.destination);
-    access::direct_lacks(
-        current,
-        f.source1,
-        selection::selectors1(f.opcode, register.mask, 0),
-    )
-        | access::direct_lacks(
-            current,
-            f.source2,
-            selection::selectors2(f.opcode, register.mask),
-        )
+    let first = selection::selectors1(f.opcode, register.mask, 0);
+    let second = selection::selectors2(f.opcode, register.mask);
+    access::direct_lacks(current, f.source1, first)
+        | access::direct_lacks(current, f.source2, second)
 }
 
 // The same of a matrix, whose rows of source 2 are asked for all four components.
@@ -33,11 +27,8 @@ pub fn matrix_unwritten(current: Written, f: Fields) -> bool
     ensures { λ r. ⌜ r ≡ matrixUnwritten current f ⌝ }
 {
     let register = layout::unpack_register(f.destination);
-    access::direct_lacks(
-        current,
-        f.source1,
-        selection::selectors1(f.opcode, register.mask, 0),
-    )
+    let first = selection::selectors1(f.opcode, register.mask, 0);
+    access::direct_lacks(current, f.source1, first)
         | access::lacks_some(current, selection::rows2(f.opcode), f.source2)
 }
 
@@ -46,11 +37,8 @@ pub fn tex_unwritten(current: Written, f: Fields) -> bool
     ensures { λ r. ⌜ r ≡ texUnwritten current f ⌝ }
 {
     let sampler = layout::unpack_sampler(f.source2);
-    access::direct_lacks(
-        current,
-        f.source1,
-        selection::coordinates(sampler.dimension),
-    )
+    let first = selection::coordinates(sampler.dimension);
+    access::direct_lacks(current, f.source1, first)
 }
 
 // The same where a source may be indexed, of a matrix too. All components of a direct source's rows are asked for.
