@@ -17,9 +17,9 @@ pub fn plain_unwritten(current: Written, f: Fields) -> bool
     }
     let register = layout::unpack_register(f.destination);
     let first = selection::selectors1(f.opcode, register.mask, 0);
+    let first_lacks = access::direct_lacks(current, f.source1, first);
     let second = selection::selectors2(f.opcode, register.mask);
-    access::direct_lacks(current, f.source1, first)
-        | access::direct_lacks(current, f.source2, second)
+    first_lacks | access::direct_lacks(current, f.source2, second)
 }
 
 // The same of a matrix, whose rows of source 2 are asked for all four components.

@@ -36,11 +36,11 @@ unpack-register-requires c κs = search needs
 selectors1-requires : tie.Need-selectors1-requires
 selectors1-requires c κs = search needs
 
-selectors2-requires : tie.Need-selectors2-requires
-selectors2-requires c κs = search needs
-
 direct-lacks-requires : tie.Need-direct-lacks-requires
 direct-lacks-requires c κs = search needs
+
+selectors2-requires : tie.Need-selectors2-requires
+selectors2-requires c κs = search needs
 
 direct-lacks-requires-2 : tie.Need-direct-lacks-requires-2
 direct-lacks-requires-2 c κs = search needs
@@ -50,8 +50,8 @@ unfolding plainUnwritten
 returns-2 c =
     simp (
       c .direct-lacks2 .ensures,
-      c .before .direct-lacks .ensures,
-      c .before .before .selectors2 .ensures,
+      c .before .selectors2 .ensures,
+      c .before .before .direct-lacks .ensures,
       c .before .before .before .selectors1 .ensures,
       c .before .before .before .before .unpack-register .ensures,
     )
@@ -65,7 +65,7 @@ plain-unwritten-spec =
     returns
     unpack-register-requires
     selectors1-requires
-    selectors2-requires
     direct-lacks-requires
+    selectors2-requires
     direct-lacks-requires-2
     returns-2)
