@@ -2,6 +2,7 @@ pub mod Added
 pub mod Counts
 pub mod FaultLaws
 pub mod OwnFault
+pub mod PlainBranch
 pub mod PlainIndexed
 pub mod PlainOpcodes
 pub mod PlainOperands

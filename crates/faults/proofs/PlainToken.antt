@@ -38,7 +38,7 @@ use Rattle.faults.proofs.FaultLaws.{staged}
 abbrev pub NoOwnFault : Profile → Token → Type 0
 NoOwnFault profile t = (token : ℕ) → ownFault profile token t ≡ noRefusal
 
-no-own-fault : (p : Profile) (t : Token) → opcodeTooNew (p .edition) (t .opcode) ≡ false → opcodeNotForStage (p .stage) (t .opcode) ≡ false
+pub no-own-fault : (p : Profile) (t : Token) → opcodeTooNew (p .edition) (t .opcode) ≡ false → opcodeNotForStage (p .stage) (t .opcode) ≡ false
     → destinationWrong (countIn p) (p .stage) (t .destination) ≡ false → maskWrong (t .opcode) (t .destination) ≡ false
     → numberOf (firstFault (sourceRules (countIn p) (p .stage) 1 (swizzleWrong false (t .opcode)) 0 (t .source1))) ≡ 0
     → numberOf (firstFault (sourceRules (countIn p) (p .stage) (rowCount2 (t .opcode)) (swizzleWrong true (t .opcode)) 0 (t .source2))) ≡ 0

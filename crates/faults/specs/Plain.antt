@@ -106,3 +106,11 @@ isPlainIndexed u f =
     && isPlainEither u true 1 (f .source1)
     && isPlainEither u (isSource (shapeOf (f .opcode) .source2)) (rowCount2 (f .opcode)) (f .source2)
     && (eqb (rowCount2 (f .opcode)) 1 || eqb (valueOf layout.swizzle (f .source2)) 0xe4))
+
+-- an opener with two direct sources, els or eif
+unfoldable pub isPlainBranch : Profile → Usable → Fields → Bool
+isPlainBranch p u f =
+    cond (not (leb 0x1c (f .opcode) && ltb (f .opcode) 0x22)) false
+    (not (eqb (p .edition) 1) && eqb (f .destination) 0
+    && isPlainSource (u .readable) (ltb (f .opcode) 0x20) 1 (f .source1)
+    && isPlainSource (u .readable) (ltb (f .opcode) 0x20) 1 (f .source2))

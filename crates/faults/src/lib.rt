@@ -7,6 +7,7 @@ mod tokens;
 
 pub use header::header_fault;
 pub use plain::is_plain;
+pub use plain::is_plain_branch;
 pub use plain::is_plain_indexed;
 pub use plain::is_plain_matrix;
 pub use plain::is_plain_tex;

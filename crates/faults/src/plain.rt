@@ -1,6 +1,6 @@
 // Plain tokens: a few tests of their fields tell that they have no fault. Most tokens are plain; the others are judged rule by rule.
 ghost use mathlib.Core.Path.{_≡_};
-ghost use Rattle.faults.specs.Plain.{plainOpcodes, usableOf, countAt, isSource, isPlainOpcode, plainSourceBits, isPlainDestination, isPlainSource, isRightlyIndexed, isPlainEither, isPlain, isPlainMatrix, isPlainTex, isPlainIndexed};
+ghost use Rattle.faults.specs.Plain.{plainOpcodes, usableOf, countAt, isSource, isPlainOpcode, plainSourceBits, isPlainDestination, isPlainSource, isRightlyIndexed, isPlainEither, isPlain, isPlainMatrix, isPlainTex, isPlainIndexed, isPlainBranch};
 use crate::profile::Profile;
 use crate::rules;
 use components::selection;
@@ -123,6 +123,20 @@ pub fn is_plain_indexed(usable: Usable, f: Fields) -> bool
         & is_plain_either(usable, true, 1, f.source1)
         & is_plain_either(usable, is_source(shape2), rows, f.source2)
         & ((rows == 1) | (second.swizzle == 0xe4))
+}
+
+// The same of a branch, in an edition that has them: an opener with two direct sources, els, eif.
+pub fn is_plain_branch(profile: Profile, usable: Usable, f: Fields) -> bool
+    ensures { λ r. ⌜ r ≡ isPlainBranch profile usable f ⌝ }
+{
+    if !((0x1c <= f.opcode) & (f.opcode < 0x22)) {
+        return false;
+    }
+    let opener = f.opcode < 0x20;
+    (profile.edition != 1)
+        & (f.destination == 0)
+        & is_plain_source(usable.readable, opener, 1, f.source1)
+        & is_plain_source(usable.readable, opener, 1, f.source2)
 }
 
 fn is_plain_opcode(set: u64, opcode: u32) -> bool

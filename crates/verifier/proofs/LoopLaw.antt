@@ -25,7 +25,7 @@ use Rattle.components.specs.declared.written.Written.{Written}
 use Rattle.layout.specs.declared.fields.Fields.{Fields}
 use Rattle.faults.specs.Order.{tokenAt, tokensFrom, tokensOf}
 use Rattle.verifier.specs.State.{noneWritten, startState, topOf, withTop, withCurrent}
-use Rattle.verifier.specs.Step.{stepped, stepOf}
+use Rattle.verifier.specs.Step.{stepped, faultOfFields, stepOf}
 use Rattle.verifier.specs.Verdict.{answerOf, opensUnlisted}
 use Rattle.verifier.specs.Finish.{finishOf}
 use Rattle.faults.specs.declared.profile.Profile.{Profile}
@@ -129,7 +129,7 @@ module _ (edition : ℕ) (bytes : List ℕ) where
   -- ---- a first token whose opcode is not listed
 
   pub unlisted-refused : 7 ≤ length bytes → opensUnlisted bytes ≡ true → Refused (refusal 9 0 0) ≡ answerOf bytes (verdictOf (tokensOf edition bytes))
-  unfolding opensUnlisted stepOf isClean tokenFault undecodedFault
+  unfolding opensUnlisted faultOfFields stepOf isClean tokenFault undecodedFault
   unlisted-refused header e =
       let long = leb 31 (length bytes) in
       let f = fieldsOf (tokenAt bytes 0) in

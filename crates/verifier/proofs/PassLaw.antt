@@ -1,4 +1,4 @@
--- A plain token that reads nothing unwritten has no fault, and touches the set at hand alone.
+-- A plain token that reads nothing unwritten has no fault, and touches the set at hand alone. A plain branch has no fault of its fields.
 -- Assumes nothing.
 use Prim.Native.Nat.{ℕ}
 use mathlib.Core.Bool.{Bool, true, false, cond, false≢true}
@@ -14,15 +14,16 @@ use Rattle.layout.specs.declared.record.Token.{Token}
 use Rattle.components.specs.Access.{lacksAccess, access1Of, access2Of}
 use Rattle.components.specs.declared.written.Written.{Written}
 use Rattle.faults.specs.Faults.{ownFault}
-use Rattle.faults.specs.Plain.{usableOf}
+use Rattle.faults.specs.Plain.{usableOf, isPlainBranch}
 use Rattle.faults.specs.Profile.{profileOf}
 use Rattle.faults.specs.declared.plain.Usable.{Usable}
 use Rattle.faults.specs.declared.profile.Profile.{Profile}
 use Rattle.faults.proofs.PlainOpcodes.{NoBranch}
+use Rattle.faults.proofs.PlainBranch.{plain-branch}
 use Rattle.faults.proofs.PlainToken.{PlainToken}
 use Rattle.verifier.specs.Pass.{passedUnless, Passes}
 use Rattle.verifier.specs.State.{flowOfCode, isMisplaced, metTop, partedTop, withCurrent, writtenBy, wroteTop}
-use Rattle.verifier.specs.Step.{stepped, followOf, takeOf, stepOf}
+use Rattle.verifier.specs.Step.{stepped, faultOfFields, followOf, stepOf}
 use Rattle.verifier.specs.declared.state.Flow.the-variants.{Plain}
 use Rattle.verifier.specs.declared.plain.Passed.{Passed}
 use Rattle.verifier.specs.declared.state.Top.{Top}
@@ -56,7 +57,7 @@ module _ (top : Top) (token : ℕ) where
   -- a token that decode takes and that has none of faults 10 to 19
   taken : (edition stage : ℕ) (f : Fields) → isClean (shapeOf (f .opcode)) f ≡ true → ownFault (profileOf edition stage) token (tokenOf (shapeOf (f .opcode)) f) ≡ noRefusal
       → stepOf top (profileOf edition stage) token f ≡ followOf top token (tokenOf (shapeOf (f .opcode)) f)
-  unfolding stepOf takeOf
+  unfolding faultOfFields stepOf
   taken edition stage f e q = rw (e, q)
 
   passes : (edition stage : ℕ) (unwritten : Written → Fields → Bool) (f : Fields) → PlainToken edition stage unwritten f → unwritten (top .current) f ≡ false
@@ -85,3 +86,13 @@ module _ (f : Fields) (test : Profile → Usable → Bool) (unwritten : Written 
       passed edition stage unwritten f
       (law edition stage (ap₂ test (sym of) (sym (used ∙ ap usableOf of)) ∙ sym tells ∙ holds))
       current asked asks r made known top at token
+
+-- a plain branch has none of faults 9 to 19
+pub branch-faultless : (profile : Profile) (usable : Usable) (f : Fields) → profile ≡ profileOf (profile .edition) (profile .stage) → usable ≡ usableOf profile
+    → isPlainBranch profile usable f ≡ true → (token : ℕ) → faultOfFields profile token f ≡ noRefusal
+unfolding faultOfFields
+branch-faultless profile usable f of used e token =
+    let edition = profile .edition in
+    let stage = profile .stage in
+    let p = plain-branch edition stage f (ap₂ (λ p u. isPlainBranch p u f) (sym of) (sym (used ∙ ap usableOf of)) ∙ e) in
+    rw (p .clean) (ap (λ q. ownFault q token (tokenOf (shapeOf (f .opcode)) f)) of ∙ p .right token)

@@ -25,7 +25,7 @@ use Rattle.faults.specs.Profile.{profileOf}
 use Rattle.faults.specs.Order.{firstFault, tokenRules, recordOf, pathTokenAt}
 use Rattle.faults.specs.Faults.{refusalAt, ownFault, undecodedFault}
 use Rattle.verifier.specs.State.{topOf, withTop}
-use Rattle.verifier.specs.Step.{stepped, followOf, takeOf, stepOf}
+use Rattle.verifier.specs.Step.{stepped, faultOfFields, followOf, stepOf}
 use Rattle.faults.specs.declared.profile.Profile.{Profile}
 use Rattle.verifier.specs.declared.state.State.{State}
 use Rattle.verifier.specs.declared.step.Stepped.{Stepped}
@@ -84,8 +84,12 @@ module _ (edition stage n : ℕ) (s : List ℕ) (h : length s ≡ 24) (st : Stat
       go none k = absurd (undecoded-fault profile n r (fieldsOf s .opcode) (was-refused s r h e .1) (sym (ap (λ x. x .number) (sym (ap (refusalAt n) k) ∙ q))))
       go (some f) k = (at-fault f k _ q .0, valid-own st v)
 
-  when-taken : (t : Token) → decodeOf s ≡ Accepted t → Steps (takeOf (topOf st) profile n t)
-  unfolding Steps takeOf
+  -- what follows a fault of fields, or none
+  abbrev afterFault : Refusal → Token → Stepped
+  afterFault r t = cond (eqb (r .number) 0) (followOf (topOf st) n t) (stepped r (topOf st))
+
+  when-taken : (t : Token) → decodeOf s ≡ Accepted t → Steps (afterFault (ownFault profile n t) t)
+  unfolding Steps
   when-taken t e = go own refl
     where
       p : t ≡ recordOf s
@@ -95,7 +99,7 @@ module _ (edition stage n : ℕ) (s : List ℕ) (h : length s ≡ 24) (st : Stat
       q = taken-fault edition stage n s h t e .1
 
       go : (o : Option TokenFault) → own ≡ o
-          → (checkFrom (abstractOf st) n (pathTokenOf own (recordOf s) ∷ rest) ≡ after st (cond (eqb (ownFault profile n t .number) 0) (followOf (topOf st) n t) (stepped (ownFault profile n t) (topOf st))) n rest) × Valid (withTop st ((cond (eqb (ownFault profile n t .number) 0) (followOf (topOf st) n t) (stepped (ownFault profile n t) (topOf st))) .top))
+          → (checkFrom (abstractOf st) n (pathTokenOf own (recordOf s) ∷ rest) ≡ after st (afterFault (ownFault profile n t) t) n rest) × Valid (withTop st (afterFault (ownFault profile n t) t .top))
       go none k =
           let z : ownFault profile n t .number ≡ 0 = ap (λ x. x .number) (sym q ∙ ap (refusalAt n) k) in
           let d = subst (λ x. Kept (x .destination)) (sym p) (kept edition stage (recordOf s .destination) (destination-right (λ k. countOf k edition stage) edition stage s k)) in
@@ -110,10 +114,12 @@ module _ (edition stage n : ℕ) (s : List ℕ) (h : length s ≡ 24) (st : Stat
           rw (ne-eqb (ownFault profile n t .number) 0 z) (a, valid-own st v)
 
   pub steps : (checkFrom (abstractOf st) n (pathTokenAt (λ k. countOf k edition stage) edition stage s ∷ rest) ≡ after st (stepOf (topOf st) profile n (fieldsOf s)) n rest) × Valid (withTop st (stepOf (topOf st) profile n (fieldsOf s) .top))
-  unfolding Steps stepOf
+  unfolding Steps faultOfFields stepOf
   steps = go (isClean (shapeOf (fieldsOf s .opcode)) (fieldsOf s)) refl
     where
       go : (b : Bool) → isClean (shapeOf (fieldsOf s .opcode)) (fieldsOf s) ≡ b
-          → Steps (cond b (takeOf (topOf st) profile n (recordOf s)) (stepped (undecodedFault profile n (tokenFault (shapeOf (fieldsOf s .opcode)) (fieldsOf s)) (fieldsOf s .opcode)) (topOf st)))
+          → Steps (afterFault (cond b (ownFault profile n (recordOf s)) (undecodedFault profile n (tokenFault (shapeOf (fieldsOf s .opcode)) (fieldsOf s)) (fieldsOf s .opcode))) (recordOf s))
       go true e = when-taken (recordOf s) (sym (no-faults s h (ap (λ r. r .number) (clean-none _ _ (clean-by _ _ e))) .answer))
-      go false e = when-refused (tokenFault (shapeOf (fieldsOf s .opcode)) (fieldsOf s)) (sym (with-fault s h (not-clean _ _ e) .answer))
+      go false e =
+          rw (ne-eqb (undecodedFault profile n (tokenFault (shapeOf (fieldsOf s .opcode)) (fieldsOf s)) (fieldsOf s .opcode) .number) 0 (undecoded-fault profile n (tokenFault (shapeOf (fieldsOf s .opcode)) (fieldsOf s)) (fieldsOf s .opcode) (not-clean _ _ e)))
+          (when-refused (tokenFault (shapeOf (fieldsOf s .opcode)) (fieldsOf s)) (sym (with-fault s h (not-clean _ _ e) .answer)))

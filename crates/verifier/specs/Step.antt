@@ -30,13 +30,15 @@ followOf st token t =
     (cond (lacksAccess (metTop st (flowOfCode (t .opcode)) .current) (access2Of t)) (stepped (refusal 21 token 3) st)
     (stepped noRefusal (nextOf st token t))))
 
-unfoldable pub takeOf : Top → Profile → ℕ → Token → Stepped
-takeOf st profile token t =
-    cond (eqb (ownFault profile token t .number) 0) (followOf st token t) (stepped (ownFault profile token t) st)
+-- 9 to 19: those of a record that decode takes, or the fault of fields that it refuses
+unfoldable pub faultOfFields : Profile → ℕ → Fields → Refusal
+faultOfFields profile token f =
+    cond (isClean (shapeOf (f .opcode)) f)
+    (ownFault profile token (tokenOf (shapeOf (f .opcode)) f))
+    (undecodedFault profile token (tokenFault (shapeOf (f .opcode)) f) (f .opcode))
 
--- a token that decode takes, or the fault of one that it refuses
 unfoldable pub stepOf : Top → Profile → ℕ → Fields → Stepped
 stepOf st profile token f =
-    cond (isClean (shapeOf (f .opcode)) f)
-    (takeOf st profile token (tokenOf (shapeOf (f .opcode)) f))
-    (stepped (undecodedFault profile token (tokenFault (shapeOf (f .opcode)) f) (f .opcode)) st)
+    cond (eqb (faultOfFields profile token f .number) 0)
+    (followOf st token (tokenOf (shapeOf (f .opcode)) f))
+    (stepped (faultOfFields profile token f) st)

@@ -66,7 +66,7 @@ fn check_tokens(edition: u32, bytes: &[u8]) -> Checked
         }
         let depth = state.depth;
         let innermost = state.branches[state::slot(depth)];
-        let stepped = Top::new(current, depth, innermost.copied()).step(profile, token, f);
+        let stepped = Top::new(current, depth, innermost.copied()).step(profile, usable, token, f);
         let fault = stepped.fault;
         if fault.number != 0 {
             return Checked::Refused(fault);

@@ -1,11 +1,15 @@
 // One token: the first fault that it has, or the next state.
 ghost use mathlib.Core.Path.{_≡_};
+ghost use Rattle.layout.specs.Opcodes.{shapeOf};
 ghost use Rattle.layout.specs.Records.{tokenOf};
-ghost use Rattle.verifier.specs.Step.{stepOf, takeOf, followOf};
+ghost use Rattle.faults.specs.Plain.{usableOf};
+ghost use Rattle.faults.specs.Profile.{profileOf};
+ghost use Rattle.verifier.specs.Step.{faultOfFields, followOf, stepOf};
 use crate::state;
 use crate::state::Top;
 use bytecode::answers::Refusal;
 use components::access;
+use faults::plain::Usable;
 use faults::profile::Profile;
 use layout::fields::Fields;
 use layout::opcodes;
@@ -18,24 +22,14 @@ pub struct Stepped {
 }
 
 impl Top {
-    // Judges one token, whose number is `token`, by its fields.
-    pub(crate) fn step(self, profile: Profile, token: usize, f: Fields) -> Stepped
+    // Judges one token, whose number is `token`, by its fields. Faults 9 to 19 come before those of branches and paths.
+    pub(crate) fn step(self, profile: Profile, usable: Usable, token: usize, f: Fields) -> Stepped
+        requires { ⌜ profile ≡ profileOf (profile .edition) (profile .stage) ⌝ }
+        requires { ⌜ usable ≡ usableOf profile ⌝ }
         ensures { λ r. ⌜ r ≡ stepOf self profile token f ⌝ }
     {
         let shape = opcodes::shape_of(f.opcode);
-        if bytecode::is_clean(shape, f) {
-            return self.take(profile, token, shape, f);
-        }
-        let refused = bytecode::fault_of(shape, f);
-        let fault = faults::undecoded_fault(profile, token, refused, f.opcode);
-        Stepped { fault, top: self }
-    }
-
-    // Faults 10 to 19 of a record come before those of branches and paths.
-    fn take(self, profile: Profile, token: usize, shape: Shape, f: Fields) -> Stepped
-        ensures { λ r. ⌜ r ≡ takeOf self profile token (tokenOf shape f) ⌝ }
-    {
-        let fault = faults::own_fault(profile, token, shape, f);
+        let fault = fault_of_fields(profile, usable, token, shape, f);
         if fault.number != 0 {
             return Stepped { fault, top: self };
         }
@@ -66,4 +60,27 @@ impl Top {
             .parted(flow, token);
         Stepped { fault, top: next }
     }
+}
+
+// The first of faults 9 to 19. Branches mostly have none, which is told before the rules are asked.
+fn fault_of_fields(
+    profile: Profile,
+    usable: Usable,
+    token: usize,
+    shape: Shape,
+    f: Fields,
+) -> Refusal
+    requires { ⌜ profile ≡ profileOf (profile .edition) (profile .stage) ⌝ }
+    requires { ⌜ usable ≡ usableOf profile ⌝ }
+    requires { ⌜ shape ≡ shapeOf (f .opcode) ⌝ }
+    ensures { λ r. ⌜ r ≡ faultOfFields profile token f ⌝ }
+{
+    if faults::is_plain_branch(profile, usable, f) {
+        return faults::refusal(0, 0, 0);
+    }
+    if bytecode::is_clean(shape, f) {
+        return faults::own_fault(profile, token, shape, f);
+    }
+    let refused = bytecode::fault_of(shape, f);
+    faults::undecoded_fault(profile, token, refused, f.opcode)
 }

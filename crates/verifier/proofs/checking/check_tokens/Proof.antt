@@ -9,6 +9,8 @@ use denote.Ref.{now}
 use Rattle.paths.specs.Check.{verdictOf}
 use Rattle.faults.specs.Rules.{stageOf, tokenCount}
 use Rattle.faults.specs.Order.{tokensOf}
+use Rattle.faults.specs.Profile.{profileOf}
+use Rattle.faults.specs.declared.profile.Profile.{Profile}
 use Rattle.verifier.specs.State.{blankBranch, topOf}
 use Rattle.verifier.specs.Finish.{finishOf}
 use Rattle.verifier.specs.Verdict.{answerOf}
@@ -94,8 +96,14 @@ copied-requires c κs = search needs
 new-requires : tie.Need-new-requires Inv-loop μ-loop
 new-requires c κs = search needs
 
+-- a profile that was looked up is that of its own edition and stage
+of-profile : (p : Profile) (edition stage : ℕ) → p ≡ profileOf edition stage → p ≡ profileOf (p .edition) (p .stage)
+of-profile p edition stage e = e ∙ ap (λ q. profileOf (q .edition) (q .stage)) (sym e)
+
 step-requires : tie.Need-step-requires Inv-loop μ-loop
-step-requires c κs = search needs
+step-requires c κs =
+    let profile = c .before .before .before .before .before .before .before .before .before .before .before .profile-of in
+    (of-profile (profile .result) _ _ (profile .ensures), c .before .before .before .before .before .before .before .before .before .before .usable-of .ensures)
 
 -- the top that the code takes
 abbrev topWith : State → Branch → Top
