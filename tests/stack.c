@@ -13,9 +13,16 @@
 #define SIZE (1u << 20)
 #define PAINT 0xA5
 
-/* One token in edition 2, mov vt0 vc[va0.x+3]. */
-static const uint8_t input[32] = {
-    '2', 0xA0, 1, 0, 0, 0, 0xA1, 0, 0, 0, 0, 0, 0, 0, 0x0F, 2, 0, 0, 3, 0xE4, 1, 0, 0, 0x80, 0, 0, 0, 0, 0, 0, 0, 0,
+/* Edition 2: a token that is passed at a glance, mov vt0 vc[va0.x+3], and branches with an indexed source, which are judged rule by rule. */
+static const uint8_t input[104] = {
+    '2', 0xA0, 1, 0, 0, 0, 0xA1, 0,
+    /* mov vt0.xyzw vc[va0.x+3].xyzw */
+    0, 0, 0, 0, 0, 0, 0x0F, 2, 0, 0, 3, 0xE4, 1, 0, 0, 0x80, 0, 0, 0, 0, 0, 0, 0, 0,
+    /* ife vc[va0.x+3].xyzw vt0.xyzw */
+    0x1C, 0, 0, 0, 0, 0, 0, 0, 0, 0, 3, 0xE4, 1, 0, 0, 0x80, 0, 0, 0, 0xE4, 2, 0, 0, 0,
+    /* els, eif */
+    0x20, 0, 0, 0, 0, 0, 0, 0, 0, 0, 0, 0, 0, 0, 0, 0, 0, 0, 0, 0, 0, 0, 0, 0,
+    0x21, 0, 0, 0, 0, 0, 0, 0, 0, 0, 0, 0, 0, 0, 0, 0, 0, 0, 0, 0, 0, 0, 0, 0,
 };
 
 static void *nothing(void *unused)
