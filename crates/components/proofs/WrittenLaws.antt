@@ -5,10 +5,10 @@ use mathlib.Core.Bool.{Bool, true, false, cond, _&&_, _||_, and-true, and-false,
 use mathlib.Core.Path.{_≡_, refl, sym, ap, _∙_}
 use native.Mathlib.Decide.{decLt}
 use native.Mathlib.Omega.{arith}
-use lib.Bits.{bitAnd}
-use lib.Dec.{eqb, ltb}
+use lib.Bits.{bitAnd, bitOr, or-zero-r}
+use lib.Dec.{eqb, ltb, leb}
 use lib.Pow.{field}
-use borrow.Author.Tests.{lt-ltb, le-ltb, eqb-true, ne-eqb}
+use borrow.Author.Tests.{lt-ltb, le-ltb, lt-leb, le-leb, eqb-true, ne-eqb}
 use Rattle.layout.specs.declared.record.Destination.the-variants.{Masked}
 use Rattle.layout.specs.declared.record.MaskedRegister.{MaskedRegister}
 use Rattle.paths.specs.Unwritten.{has, adds}
@@ -34,6 +34,20 @@ pub in-join : (a b : Written) (n : ℕ) → componentSet (joinOf a b) n ≡ (com
 in-join a b n = rw (halves-join a b (n / 4)) (bit-and (halfOf a (n / 4)) (halfOf b (n / 4)) (n % 64))
 
 -- ---- mark
+
+-- as the code marks: each half gets the bits, or none
+pub marks : (s : Written) (r mask : ℕ)
+    → record { low = bitOr (s .low) (cond (ltb r 16) (mask % 16 * 2 ^ (r % 16 * 4)) 0); high = bitOr (s .high) (cond (leb 16 r && ltb r 32) (mask % 16 * 2 ^ (r % 16 * 4)) 0) }
+    ≡ markOf s r mask
+unfolding markOf
+marks s r mask =
+    elim (decLt r 16) [
+      | yes h ↦ rw (lt-ltb r 16 h, lt-leb 16 r h, or-zero-r (s .high))
+      | no g ↦ elim (decLt r 32) [
+        | yes h ↦ rw (le-ltb r 16 (omega (arith, g)), le-leb 16 r (omega (arith, g)), lt-ltb r 32 h, or-zero-r (s .low))
+        | no k ↦ rw (le-ltb r 16 (omega (arith, g)), le-leb 16 r (omega (arith, g)), le-ltb r 32 (omega (arith, k)), or-zero-r (s .low), or-zero-r (s .high))
+      ]
+    ]
 
 -- the components of a mask, with a test for the register
 the-bit : (e : Bool) (b : ℕ → Bool) (j : ℕ) → j < 4

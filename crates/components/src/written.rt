@@ -1,6 +1,8 @@
 // Sets of written components of temporary registers.
+ghost use mathlib.Core.Bool.{cond};
 ghost use mathlib.Core.Path.{_≡_};
-ghost use Rattle.components.specs.Written.{halfOf, joinOf, marked, markOf, lacksRow, lacksOf};
+ghost use Prim.Native.Nat.{_*_, _%_, _^_};
+ghost use Rattle.components.specs.Written.{halfOf, joinOf, markOf, lacksRow, lacksOf};
 
 // Four bits for each register, its lowest for x: registers 0 to 15 in the low half, 16 to 31 in the high one.
 pub struct Written {
@@ -23,28 +25,25 @@ pub fn mark(written: Written, register: u16, mask: u8) -> Written
     ensures { λ r. ⌜ r ≡ markOf written register mask ⌝ }
 {
     let register = register as u32;
-    if register < 16 {
-        let low = with_mask(written.low, register, mask);
-        return Written {
-            low,
-            high: written.high,
-        };
+    let bits = placed(register, mask);
+    Written {
+        low: written.low | only(register < 16, bits),
+        high: written.high | only((16 <= register) & (register < 32), bits),
     }
-    if register < 32 {
-        let high = with_mask(written.high, register, mask);
-        return Written {
-            low: written.low,
-            high,
-        };
-    }
-    written
 }
 
-// The half that a register is in, with the components of a mask added to the register's.
-fn with_mask(half: u64, register: u32, mask: u8) -> u64
-    ensures { λ r. ⌜ r ≡ marked half register mask ⌝ }
+// The bits of a mask, where the half that a register is in has the register's.
+fn placed(register: u32, mask: u8) -> u64
+    ensures { λ r. ⌜ r ≡ mask % 16 * 2 ^ (register % 16 * 4) ⌝ }
 {
-    half | (((mask % 16) as u64) << (register % 16 * 4))
+    ((mask % 16) as u64) << (register % 16 * 4)
+}
+
+// Bits, or none. The processor chooses here and guesses nothing: registers are written in no order that it could guess.
+fn only(chosen: bool, bits: u64) -> u64
+    ensures { λ r. ⌜ r ≡ cond chosen bits 0 ⌝ }
+{
+    if chosen { bits } else { 0 }
 }
 
 // Whether one of `rows` registers, from `register` on, lacks one of the components.

@@ -1,11 +1,11 @@
--- `with_mask` meets its contract.
+-- `placed` meets its contract.
 -- Assumes nothing.
 use Prim.Native.Nat.{_*_, _%_}
-use borrow.Author.Needs.{needs}
 use native.Mathlib.Omega.{arith}
 use lib.Pow.{shl-exact}
-use Rattle.components.proofs.written.with_mask.Statement.{statement}
-use Rattle.components.proofs.written.with_mask.Tie as tie
+use borrow.Author.Needs.{needs}
+use Rattle.components.proofs.written.placed.Statement.{statement}
+use Rattle.components.proofs.written.placed.Tie as tie
 
 cast-result : tie.Need-cast-result
 cast-result c = search needs
@@ -22,5 +22,5 @@ shl-result c = search needs
 returns : tie.Need-returns
 returns c = rw (shl-exact {a = c .args .mask % 16} 4 (c .args .register % 16 * 4) 64 (omega arith) (omega arith))
 
-pub with-mask-spec : {M : Type 1} → statement M
-with-mask-spec = tie.close (tie.spec cast-result mul-result cast-result-2 shl-result returns)
+pub placed-spec : {M : Type 1} → statement M
+placed-spec = tie.close (tie.spec cast-result mul-result cast-result-2 shl-result returns)
