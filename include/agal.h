@@ -160,7 +160,7 @@ agal_answer agal_encode(const uint8_t *flat, size_t flat_length, uint8_t *out, s
  * Writes the listing line of a token, from its flat form, for a stage (AGAL_VERTEX or AGAL_FRAGMENT) and at a depth of 0 to 16.
  *
  * The line ends in a line feed and has no 0 after it; value is its length, at most AGAL_LINE_MAX. Refused by 25 as agal_encode is, and for
- * another stage or depth, a register type above 6, or sampler settings that have no name; then by 23.
+ * another stage or depth, a register type or an indexed source's index type above 6, or sampler settings that have no name; then by 23.
  */
 agal_answer agal_line(const uint8_t *flat, size_t flat_length, uint32_t stage, uint32_t depth, uint8_t *out, size_t out_length);
 

@@ -13,7 +13,7 @@
 #define SIZE (1u << 20)
 #define PAINT 0xA5
 
-/* Edition 2: a token that is passed at a glance, mov vt0 vc[va0.x+3], and branches with an indexed source, which are judged rule by rule. */
+/* Edition 2: a token that is passed at a glance; an opener with an indexed source, which is judged rule by rule; els and eif. */
 static const uint8_t input[104] = {
     '2', 0xA0, 1, 0, 0, 0, 0xA1, 0,
     /* mov vt0.xyzw vc[va0.x+3].xyzw */

@@ -30,6 +30,7 @@ checkAnswer (NotAccepted r) = refused r 0
 
 -- of a token read at a place: the place `step` further on; "any refusal leaves the place unmoved", and "for the reader the token it stands
 -- at" is a refusal's. 23 where the lent buffer has no room for a flat form, after any refusal of the token.
+-- Decode stands at place 0, and its step is 29: the length that is written.
 abbrev pub deliveryAnswer : ℕ → ℕ → Decoded → List ℕ → Answer
 deliveryAnswer place step (Read t) buffer = cond (ltb (length buffer) 29) (refused (refusal 23 place 0) place) (answered 0 (place + step))
 deliveryAnswer place step (NotRead r) buffer = refused r place
@@ -39,11 +40,11 @@ abbrev pub delivered : Decoded → List ℕ → List ℕ
 delivered (Read t) buffer = cond (ltb (length buffer) 29) buffer (flatOf t ++ drop 29 buffer)
 delivered (NotRead r) buffer = buffer
 
--- the faults that are told before any field is looked into, 24 and then 9, which have no part; 0 where there is neither
+-- the faults that are told before any field but the opcode is looked into, 24 and then 9, which have no part; 0 where there is neither
 unfoldable pub outrightFault : List ℕ → ℕ
 outrightFault s = cond (eqb (length s) 24) (cond (shapeOf (fieldsOf s .opcode) .listed) 0 9) 24
 
--- an answer to a delivery as one number: 0, or the fault's number and 256 times its part
+-- an answer to a delivery as one number: 0, or the fault's number plus 256 times its part
 abbrev pub deliveryCode : Decoded → List ℕ → ℕ
 deliveryCode (Read t) buffer = cond (ltb (length buffer) 29) 23 0
 deliveryCode (NotRead r) buffer = r .number + 256 * r .part

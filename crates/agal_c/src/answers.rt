@@ -41,7 +41,7 @@ pub(crate) fn refused(refusal: Refusal, value: usize) -> Answer
     }
 }
 
-// A refusal at a place, which is its token and stays where it is.
+// A refusal at a place: the place is its token and also the value, since a refusal does not move on.
 pub(crate) fn refused_at(number: u8, part: u8, place: usize) -> Answer
     ensures { λ r. ⌜ r ≡ refusedOf (record { number = number; token = place; part = part }) place ⌝ }
 {
@@ -54,7 +54,7 @@ pub(crate) fn refused_at(number: u8, part: u8, place: usize) -> Answer
     }
 }
 
-// What `deliver` returned of the token at a place: the next place, or the fault, at that place.
+// The answer to what `deliver` returned for the token at a place: the next place as the value, or the fault, at that place.
 pub(crate) fn delivered(code: u32, place: usize, next: usize) -> Answer
     ensures { λ r. ⌜ r ≡ codeAnswer code place next ⌝ }
 {

@@ -19,7 +19,7 @@ use layout::opcodes::OperandShape;
 use layout::opcodes::Shape;
 use layout::record::Token;
 
-// The fault that is told before any field is looked into: 24 where the bytes are no whole token, 9 where the opcode is not listed, else 0.
+// The fault that is told before any field but the opcode is looked into: 24 where the bytes are no whole token, 9 where the opcode is not listed, else 0.
 // It is small enough to be compiled into its callers, so that such bytes cost no further call.
 pub(crate) fn outright_fault(token: &[u8]) -> u8
     ensures { λ r. ⌜ r ≡ outrightFault (now (token .entry)) ⌝ }
@@ -32,7 +32,7 @@ pub(crate) fn outright_fault(token: &[u8]) -> u8
     if shape.listed { 0 } else { 9 }
 }
 
-// Writes the flat form of a token and returns 0, or returns the token's first fault, its number and 256 times its part; 23 where the lent
+// Writes the flat form of a token and returns 0, or returns the token's first fault, its number plus 256 times its part; 23 where the lent
 // buffer has no room for a flat form. A number comes back in a register, where a struct would be written to memory and read from it at once.
 pub(crate) fn deliver(token: &[u8], flat: &mut [u8]) -> u32
     requires { ⌜ length (now token) ≡ 24 ⌝ }

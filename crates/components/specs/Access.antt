@@ -1,5 +1,5 @@
 -- Document 01, "Ways, reads and writes", as Reads states it, in the form that the code uses: a register, how many rows from it, and a set
--- of components as a number. What each of these definitions stands for is proved of Reads.
+-- of components as a number. That each says what Reads says is proved, in AccessLaws.
 use Prim.Native.Nat.{ℕ, _*_, _/_, _%_, _^_}
 use mathlib.Core.Bool.{Bool, cond, _&&_, _||_}
 use mathlib.Core.List.{List, [], _∷_}

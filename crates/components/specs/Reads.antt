@@ -50,7 +50,7 @@ named swizzle selectors = those (λ c. isIn c (map (selector swizzle) selectors)
 
 -- ---- what each opcode reads
 
--- "Opcodes": nrm 0e; kil, tex and the openers are named in the crate bytecode
+-- "Opcodes": nrm 0e; kil, tex and the openers are named in the crate layout, Opcodes
 abbrev pub nrm : ℕ
 nrm = 0x0e
 

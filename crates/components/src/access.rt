@@ -87,8 +87,8 @@ pub(crate) fn direct_lacks(current: Written, field: u64, selectors: u8) -> bool
     (source.kind == 2) & written::lacks(current, source.number, 1, components)
 }
 
-// Whether a direct source is a temporary register that lacks a component, or one of so many rows does. If not, it is not to be asked which
-// components are read.
+// Whether a direct source is a temporary register and one of the rows from it lacks a component, read or not. If none does, which components
+// are read need not be asked.
 pub(crate) fn lacks_some(current: Written, rows: u8, field: u64) -> bool
     ensures { λ r. ⌜ r ≡ lacksSome current rows (directOf field) ⌝ }
 {

@@ -1,5 +1,5 @@
-// Quick tests of tokens that have no fault of their own, which most are: whether such a token reads what is not written. They may say so of
-// one that does not, but not of one that does.
+// Quick tests for tokens that have none of faults 9 to 19: whether such a token reads what is not written. Each says yes of every token that
+// does. Those of matrices and indexed sources ask for all four components, and so may say yes of one that does not.
 ghost use mathlib.Core.Path.{_≡_};
 ghost use Rattle.components.specs.Access.{plainUnwritten, matrixUnwritten, texUnwritten, mayLack, indexedUnwritten};
 use crate::access;
@@ -7,8 +7,8 @@ use crate::selection;
 use crate::written::Written;
 use layout::fields::Fields;
 
-// Whether a token reads what is not written, where its sources are direct and each is one register or none, and its destination is used. One
-// that is 0, and so names no temporary register, may be none.
+// For a token with a destination and direct sources of one register each. A source that is not used is 0, which names no temporary register,
+// and is asked as the other is.
 pub fn plain_unwritten(current: Written, f: Fields) -> bool
     ensures { λ r. ⌜ r ≡ plainUnwritten current f ⌝ }
 {

@@ -14,16 +14,19 @@ const KIL: u32 = 0x27;
 
 const TEX: u32 = 0x28;
 
-// Sets of opcodes, bit by bit: nrm crs dp3 m33; crs dp3; dp4 m34 m44 and the openers; dp4 and the openers; and all that are not by the
-// mask of source 1: the first, the third, kil and tex.
+// Sets of opcodes, bit by bit. nrm, crs, dp3 and m33 read by the first three selectors of source 1.
 const BY_THREE_OF_SOURCE1: u64 = 0x0086_4000;
 
+// crs and dp3 also of source 2.
 const BY_THREE_OF_SOURCE2: u64 = 0x0006_0000;
 
+// dp4, m34, m44 and the openers by all four of source 1.
 const BY_FOUR_OF_SOURCE1: u64 = 0xF308_0000;
 
+// dp4 and the openers also of source 2.
 const BY_FOUR_OF_SOURCE2: u64 = 0xF008_0000;
 
+// All that do not read source 1 by the mask: the first and the third set, kil and tex.
 const NOT_BY_MASK_OF_SOURCE1: u64 = 0x0180_F38E_4000;
 
 const FIRST: u8 = 1;
@@ -34,6 +37,7 @@ const FIRST_THREE: u8 = 7;
 
 pub(crate) const ALL_FOUR: u8 = 15;
 
+// The selectors of source 1 that an opcode reads by, as a set; most opcodes read by the mask.
 pub(crate) fn selectors1(opcode: u32, mask: u8, dimension: u8) -> u8
     ensures { λ r. ⌜ r ≡ selectorSet1 opcode mask dimension ⌝ }
 {
@@ -66,6 +70,7 @@ pub(crate) fn coordinates(dimension: u8) -> u8
     }
 }
 
+// The same of source 2.
 pub(crate) fn selectors2(opcode: u32, mask: u8) -> u8
     ensures { λ r. ⌜ r ≡ selectorSet2 opcode mask ⌝ }
 {
@@ -78,7 +83,7 @@ pub(crate) fn selectors2(opcode: u32, mask: u8) -> u8
     mask
 }
 
-// The components that are read of each row of source 2: a matrix is read whole, whatever the swizzle.
+// The components that are read of each row of source 2: of m33 x, y and z, of the other matrices all four, whatever the swizzle.
 pub(crate) fn components2(opcode: u32, mask: u8, swizzle: u8) -> u8
     ensures { λ r. ⌜ r ≡ readSet2 opcode mask swizzle ⌝ }
 {

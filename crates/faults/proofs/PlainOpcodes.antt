@@ -51,7 +51,7 @@ by-edition edition fact first later = go (eqb edition 1) refl
 abbrev isSpecial : ℕ → Bool
 isSpecial o = (leb 0x17 o && ltb o 0x1a) || (leb 0x1c o && ltb o 0x29)
 
--- what an opcode that is not one of these has to do with no rule of its own
+-- what holds of an opcode that is none of these: no rule is its own
 pub record Ordinary (o : ℕ) : Type 0 where
   pub single : 0x17 ≤ o → o ≤ 0x19 → ⊥
   pub flow : NoBranch o
@@ -77,7 +77,7 @@ ordinary o e =
     unswizzled true z = simp (not-one 0x17 refl, not-one 0x18 refl, not-one 0x19 refl)
     unswizzled false z = simp (not-one 0x27 refl)
 
--- so are those below m33
+-- the opcodes below m33 are ordinary
 pub low-ordinary : (o : ℕ) → o < 0x17 → Ordinary o
 low-ordinary o h = ordinary o (rw (lt-leb 0x17 o h, lt-leb 0x1c o (omega (arith, h))))
 
@@ -85,7 +85,7 @@ T-false : (b : Bool) → T (not b) → b ≡ false
 T-false true t = absurd t
 T-false false t = refl
 
--- a plain opcode is one of them, and is in the edition
+-- a plain opcode is ordinary, and is in the edition
 pub plain-ordinary : (edition o : ℕ) → isPlainOpcode (plainOpcodes edition) o ≡ true → Ordinary o
 unfolding isPlainOpcode
 plain-ordinary edition o =

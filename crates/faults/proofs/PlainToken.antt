@@ -1,6 +1,6 @@
 -- A plain token, as the tests tell it, has no fault of fields and none of faults 10 to 19, and reads what its fields tell.
 -- Assumes nothing.
-use Prim.Native.Nat.{ℕ, _≤_}
+use Prim.Native.Nat.{ℕ}
 use mathlib.Core.Bool.{Bool, true, false, not, cond, _&&_, and-false, false≢true}
 use mathlib.Core.Path.{_≡_, refl, _∙_, ap, ap₂, sym, subst, fun-ext}
 use native.Mathlib.Omega.{arith}
@@ -183,8 +183,8 @@ module _ (edition stage : ℕ) where
 
     -- ---- with tex
 
-    abbrev sampled : Bool
-    sampled = isStray (operandBits Sampler) (f .source2)
+    abbrev stray : Bool
+    stray = isStray (operandBits Sampler) (f .source2)
 
     abbrev wrong : Bool
     wrong = samplerWrong (countIn profile) (samplerOf (f .source2))
@@ -197,17 +197,17 @@ module _ (edition stage : ℕ) where
     unfolding texUnwritten
     asked-tex e s l = ap (λ n. lacksAccess s (selectedAccess n (directOf (f .source1)))) (coordinates e (samplerOf (f .source2) .dimension)) ∙ l
 
-    when-tex : o ≡ tex → (destination && first && eqb stage 1 && not sampled && not wrong) ≡ true → PlainToken texUnwritten f
+    when-tex : o ≡ tex → (destination && first && eqb stage 1 && not stray && not wrong) ≡ true → PlainToken texUnwritten f
     unfolding tokenOf rowOf shapeOfRow
     when-tex is e =
-        let four = left (destination && first && eqb stage 1 && not sampled) (not wrong) e in
-        let three = left (destination && first && eqb stage 1) (not sampled) four in
+        let four = left (destination && first && eqb stage 1 && not stray) (not wrong) e in
+        let three = left (destination && first && eqb stage 1) (not stray) four in
         let both = left (destination && first) (eqb stage 1) three in
         let fragment = eqb-true stage 1 (right (destination && first) (eqb stage 1) three) in
         let whole = ap shapeOf is in
-        let right-sampler = not-true wrong (right (destination && first && eqb stage 1 && not sampled) (not wrong) e) in
+        let right-sampler = not-true wrong (right (destination && first && eqb stage 1 && not stray) (not wrong) e) in
         together Sampler whole (plain-into both) (asDirect 1 (f .source1)) (plain-from both) texUnwritten (λ low high. omega (arith, high, is)) (ap (opcodeTooNew edition) is ∙ and-false (eqb edition 1)) (rw (ne-eqb stage 0 (λ z. omega (arith, z, fragment)))) (ap (λ o. swizzleWrong false o (directOf (f .source1) .swizzle)) is)
-        (not-true sampled (right (destination && first && eqb stage 1) (not sampled) four))
+        (not-true stray (right (destination && first && eqb stage 1) (not stray) four))
         (rw right-sampler)
         (λ s l. reads1 Sampler whole (plain-into both) (asDirect 1 (f .source1)) (plain-from both) (samplerOf (f .source2) .dimension) refl s (asked-tex is s l))
         (λ s l. refl)
@@ -216,6 +216,6 @@ module _ (edition stage : ℕ) where
     unfolding isPlainTex
     plain-tex e = go (eqb o tex) refl e
       where
-        go : (b : Bool) → eqb o tex ≡ b → cond b (destination && first && eqb stage 1 && not sampled && not wrong) false ≡ true → PlainToken texUnwritten f
+        go : (b : Bool) → eqb o tex ≡ b → cond b (destination && first && eqb stage 1 && not stray && not wrong) false ≡ true → PlainToken texUnwritten f
         go true l k = when-tex (eqb-true o tex l) k
         go false l k = absurd (false≢true k)

@@ -1,4 +1,4 @@
--- The tests that tell a plain token, one that has no fault. Nobody has to believe them: they are proved to tell the truth.
+-- The tests that tell a plain token, one that has none of faults 9 to 19. Nobody has to believe them: they are proved to tell the truth.
 use Prim.Native.Nat.{ℕ, _+_, _*_, _/_, _%_, _^_}
 use mathlib.Core.Bool.{Bool, true, false, not, cond, _&&_, _||_}
 use lib.Bits.{bitAnd}
@@ -98,7 +98,7 @@ isPlainTex p u f =
     && not (samplerWrong (countIn p) (samplerOf (f .source2))))
     false
 
--- with a source that is indexed, and a matrix or not
+-- each source indexed or direct; a matrix or not
 unfoldable pub isPlainIndexed : Usable → Fields → Bool
 isPlainIndexed u f =
     cond (eqb (rowCount2 (f .opcode)) 1 && not (isPlainOpcode (u .opcodes) (f .opcode))) false

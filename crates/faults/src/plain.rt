@@ -1,4 +1,5 @@
-// Plain tokens: a few tests of their fields tell that they have no fault. Most tokens are plain; the others are judged rule by rule.
+// Plain tokens: a few tests of their fields tell that they have none of faults 9 to 19. Most tokens are plain; the others are judged rule by
+// rule.
 ghost use mathlib.Core.Path.{_≡_};
 ghost use Rattle.faults.specs.Plain.{plainOpcodes, usableOf, countAt, isSource, isPlainOpcode, plainSourceBits, isPlainDestination, isPlainSource, isRightlyIndexed, isPlainEither, isPlain, isPlainMatrix, isPlainTex, isPlainIndexed, isPlainBranch};
 use crate::profile::Profile;
@@ -9,8 +10,8 @@ use layout::fields::Fields;
 use layout::opcodes;
 use layout::opcodes::OperandShape;
 
-// What a plain token may use in an edition and a stage: a set of opcodes, and how many registers of each kind a source may name, a
-// destination, and the index of a source. Counts have eight bits for each kind, 0 where a kind may not be named so.
+// What a plain token may use in an edition and a stage: a set of opcodes, and how many registers of each kind a source, a destination and an
+// index may name. A count has eight bits, and is 0 for a kind that may not be named there.
 pub struct Usable {
     pub opcodes: u64,
     pub readable: u64,
@@ -18,13 +19,15 @@ pub struct Usable {
     pub indexing: u64,
 }
 
-// The opcodes below m33, 17, and from sge, 29, on, as a set: each has a destination and one or two sources, in every stage, and few rules.
+// The opcodes below m33, 17, and from sge, 29, on, as a set: each has a destination and one or two sources of one
+// register, in every stage, and no rule of its own but 15.
 const OPCODES: u64 = 0x3600_007F_FFFF;
 
 // With ddx, 1a, and ddy, 1b, which edition 1 does not have.
 const OPCODES_AND_DERIVATIVES: u64 = 0x3600_0C7F_FFFF;
 
-// The bits that a plain operand may have. Kinds are below 8; a direct source has no offset, and what is indexed is kind 0 or 1.
+// The bits that a plain operand may have. Kinds are below 8, and a direct source has neither an offset nor D. Of an indexed source's kind one
+// bit is let through, and is_rightly_indexed asks that it is 1.
 const DESTINATION_BITS: u64 = 0x070F_FFFF;
 
 const SOURCE_BITS: u64 = 0x0003_0F07_FF00_FFFF;
@@ -64,7 +67,7 @@ fn plain_opcodes(edition: u32) -> u64
     }
 }
 
-// Whether a token with one of these opcodes is plain.
+// Whether a token with one of these opcodes is plain; false for all others.
 pub fn is_plain(usable: Usable, f: Fields) -> bool
     ensures { λ r. ⌜ r ≡ isPlain usable f ⌝ }
 {
@@ -108,7 +111,7 @@ pub fn is_plain_tex(profile: Profile, usable: Usable, f: Fields) -> bool
         & !rules::sampler_wrong(profile, sampler)
 }
 
-// The same of a token with an indexed source, a matrix among them.
+// The same where each source may be indexed or direct, of a matrix too.
 pub fn is_plain_indexed(usable: Usable, f: Fields) -> bool
     ensures { λ r. ⌜ r ≡ isPlainIndexed usable f ⌝ }
 {

@@ -120,7 +120,7 @@ fn first_of(a: bool, x: u8, b: bool, y: u8) -> u8
 fn swizzle_wrong(second: bool, opcode: u32, swizzle: u8) -> bool
     ensures { λ r. ⌜ r ≡ swizzleWrong second opcode swizzle ⌝ }
 {
-    // The opcodes that the rule names, kil and the matrices, are not among the first.
+    // kil and the matrices, which the rule names, are 17 or above; most tokens are below.
     if opcode < 0x17 {
         return false;
     }

@@ -10,7 +10,7 @@ use lib.ListN.{getD, set, length-set}
 use borrow.Author.Tests.{lt-ltb, le-ltb, leb-false}
 use Rattle.layout.specs.declared.record.Destination.{Destination}
 use Rattle.layout.specs.declared.record.Destination.the-variants.{Unused as NoDestination, Masked}
-use Rattle.paths.specs.Paths.{Flow, opener}
+use Rattle.paths.specs.Paths.{Flow}
 use Rattle.paths.specs.Nesting.{branchesAfter}
 use Rattle.paths.specs.Unwritten.{ComponentSet, adds}
 use Rattle.components.specs.Reads.{writesInto, temporaries}

@@ -35,6 +35,7 @@ pub fn check(edition: u32, bytes: &[u8]) -> Checked
 fn opens_unlisted(bytes: &[u8]) -> bool
     ensures { λ r. ⌜ r ≡ opensUnlisted (now (bytes .entry)) ⌝ }
 {
+    // A header and one token.
     if bytes.len() < 31 {
         return false;
     }
@@ -43,7 +44,7 @@ fn opens_unlisted(bytes: &[u8]) -> bool
     !shape.listed
 }
 
-// Faults 9 to 22 of a program that has a header.
+// Faults 9 to 22 of a program that has a header. The state is declared first, since the compiler then keeps the set at hand in registers.
 fn check_tokens(edition: u32, bytes: &[u8]) -> Checked
     requires { ⌜ 7 ≤ length (now bytes) ⌝ }
     ensures { λ r. ⌜ r ≡ answerOf (now (bytes .entry)) (verdictOf (tokensOf edition (now (bytes .entry)))) ⌝ }
@@ -80,9 +81,8 @@ fn check_tokens(edition: u32, bytes: &[u8]) -> Checked
         state.depth = next.depth;
         token += 1;
     }
-    let depth = state.depth;
-    let innermost = state.branches[state::slot(depth)];
-    finish(depth, innermost.opener, stage, count)
+    let innermost = state.branches[state::slot(state.depth)];
+    finish(state.depth, innermost.opener, stage, count)
 }
 
 // The fields of a token.

@@ -19,6 +19,7 @@ pub struct Passed {
 pub(crate) fn pass(profile: Profile, usable: Usable, current: Written, f: Fields) -> Passed
     ensures { λ r. ⌜ (r .known ≡ true → Passes profile usable current f (r .current)) ⌝ }
 {
+    // D is the same bit of both fields, so one test asks for both. Of a sampler it is a bit of the filter, which no right sampler has set.
     if layout::is_indexed(f.source1 | f.source2) {
         if faults::is_plain_indexed(usable, f) {
             return passed_unless(plain::indexed_unwritten(current, f), current, f);

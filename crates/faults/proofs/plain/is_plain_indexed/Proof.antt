@@ -1,6 +1,6 @@
 -- `is_plain_indexed` meets its contract.
 -- Assumes nothing.
-use mathlib.Core.Path.{_∙_, sym}
+use mathlib.Core.Path.{sym}
 use Rattle.faults.specs.Plain.{isPlainIndexed}
 use borrow.Author.Needs.{needs}
 use Rattle.faults.proofs.plain.is_plain_indexed.Statement.{statement}
