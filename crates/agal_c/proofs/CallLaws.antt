@@ -1,7 +1,7 @@
 -- What the exported functions answer, from what the functions that they call answer.
 -- Assumes nothing.
 use Prim.Native.Nat.{ℕ, _+_, _*_, _/_, _%_, _<_, _≤_}
-use mathlib.Core.Bool.{Bool, true, false, not, cond, _&&_, false≢true}
+use mathlib.Core.Bool.{Bool, true, false, not, cond, _&&_, false≢true, and-false}
 use mathlib.Core.List.{List, [], _++_}
 use mathlib.Core.Path.{_≡_, refl, _∙_, sym, ap}
 use native.Mathlib.Omega.{arith}
@@ -183,10 +183,6 @@ place-within bytes place e = go (noTokenLeft bytes place) _ refl e
     go false token l h = ltb-false _ _ l
 
 -- ---- a flat form
-
-and-false : (a : Bool) → (a && false) ≡ false
-and-false true = refl
-and-false false = refl
 
 pub flat-long : (s : List ℕ) → isFlat s ≡ true → 29 ≤ length s
 unfolding isFlat

@@ -6,9 +6,9 @@ use mathlib.Core.Path.{_≡_, refl, _∙_, ap, sym, subst}
 use native.Mathlib.Decide.{decLt}
 use native.Mathlib.Omega.{arith}
 use lib.Dec.{T, eqb, ltb, leb, eqb→eq, leb→le}
-use borrow.Author.Tests.{ne-eqb, le-leb, lt-leb, lt-ltb, le-ltb, eqb-true, eqb-false}
+use borrow.Author.Tests.{ne-eqb, le-leb, lt-leb, lt-ltb, le-ltb, eqb-true, eqb-false, not-true}
 use Rattle.laws.specs.Tests.{every}
-use Rattle.laws.proofs.Every.{below, either-right}
+use Rattle.laws.proofs.Every.{below, either-right, is-true}
 use Rattle.layout.specs.Opcodes.{isIn, addedOpcodes, rowOf, shapeOfRow, shapeOf, holds}
 use Rattle.layout.specs.declared.opcodes.OperandShape.{OperandShape}
 use Rattle.layout.specs.declared.opcodes.OperandShape.the-variants.{Unused, Source, Sampler}
@@ -37,6 +37,10 @@ for-plain set fact t o e =
       | yes h ↦ either-right (not (isPlainOpcode set o)) (fact o) (below (λ o. not (isPlainOpcode set o) || fact o) 64 t o h) (ap not e)
       | no g ↦ absurd (false≢true (past-plain set o (omega (arith, g)) ∙ e))
     ]
+
+-- a test that no opcode of a set passes
+none-plain : (set : ℕ) (test : ℕ → Bool) → T (every (λ o. not (isPlainOpcode set o) || not (test o)) 64) → (o : ℕ) → isPlainOpcode set o ≡ true → test o ≡ false
+none-plain set test t o e = not-true (test o) (is-true (not (test o)) (for-plain set (λ o. not (test o)) t o e))
 
 -- the set of an edition is one of two
 by-edition : (edition : ℕ) (fact : ℕ → Type 0) → (edition ≡ 1 → fact 0x3600007fffff) → ((edition ≡ 1 → ⊥) → fact 0x36000c7fffff) → fact (plainOpcodes edition)
@@ -81,23 +85,19 @@ ordinary o e =
 pub low-ordinary : (o : ℕ) → o < 0x17 → Ordinary o
 low-ordinary o h = ordinary o (rw (lt-leb 0x17 o h, lt-leb 0x1c o (omega (arith, h))))
 
-T-false : (b : Bool) → T (not b) → b ≡ false
-T-false true t = absurd t
-T-false false t = refl
-
 -- a plain opcode is ordinary, and is in the edition
 pub plain-ordinary : (edition o : ℕ) → isPlainOpcode (plainOpcodes edition) o ≡ true → Ordinary o
 unfolding isPlainOpcode
 plain-ordinary edition o =
     by-edition edition (λ set. isPlainOpcode set o ≡ true → Ordinary o)
-    (λ e h. ordinary o (T-false (isSpecial o) (for-plain 0x3600007fffff (λ o. not (isSpecial o)) tt o h)))
-    (λ e h. ordinary o (T-false (isSpecial o) (for-plain 0x36000c7fffff (λ o. not (isSpecial o)) tt o h)))
+    (λ e h. ordinary o (none-plain 0x3600007fffff isSpecial tt o h))
+    (λ e h. ordinary o (none-plain 0x36000c7fffff isSpecial tt o h))
 
 pub plain-in-edition : (edition o : ℕ) → isPlainOpcode (plainOpcodes edition) o ≡ true → opcodeTooNew edition o ≡ false
 unfolding isPlainOpcode
 plain-in-edition edition o =
     by-edition edition (λ set. isPlainOpcode set o ≡ true → opcodeTooNew edition o ≡ false)
-    (λ e h. simp (T-false (isIn o addedOpcodes) (for-plain 0x3600007fffff (λ o. not (isIn o addedOpcodes)) tt o h), and-false))
+    (λ e h. simp (none-plain 0x3600007fffff (λ o. isIn o addedOpcodes) tt o h, and-false))
     (λ e h. simp (ne-eqb edition 1 e))
 
 -- ---- matrices

@@ -103,22 +103,23 @@ fn read_reference(program: &[u8]) {
     }
 }
 
-/// Fails unless both sides judge each program of a case alike, and list it alike.
+/// Fails unless both sides judge each program of a case alike, and list it alike, and the case says how many tokens are judged.
 pub fn agree(case: &Case) {
+    let mut judged = 0;
     for input in &case.inputs {
         let ours = raw::check(EDITION, &input[1..]);
         match reference::check(&input[1..], EDITION) {
             Ok(accepted) => assert_eq!((ours.number, ours.value), (0, accepted.tokens)),
             Err(r) => assert_eq!((ours.number, ours.token), (r.number, r.token)),
         }
-        let judged = if ours.number == 0 {
+        judged += if ours.number == 0 {
             ours.value
         } else {
             ours.token + 1
         };
-        assert_eq!(judged, case.tokens / case.inputs.len());
         let mut text = vec![0; REPORT_MAX];
         let length = raw::report(input, &mut text).value;
         assert_eq!(text[..length], reference::report(input));
     }
+    assert_eq!(judged, case.tokens);
 }

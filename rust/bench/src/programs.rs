@@ -1,4 +1,4 @@
-//! The programs that are measured: edition 3, fragment.
+//! The programs that are measured: edition 3, and for fragments where nothing else is said.
 
 use generate::Rng;
 use reference::{encode, Destination, Operand, Sampler, Source, Token, HEADER_LEN, TOKEN_LEN};
@@ -36,6 +36,8 @@ pub fn case(name: &str) -> Option<Case> {
         "nested-8" => whole("nested-8", vec![program(1, 2_048, 8)]),
         "nested-16" => whole("nested-16", vec![program(1, 2_048, 16)]),
         "small" => whole("small", (0..1_000).map(|s| program(s, 20, 0)).collect()),
+        "mixed-vertex" => whole("mixed-vertex", (0..200).map(|s| mixed(s, 0)).collect()),
+        "mixed-fragment" => whole("mixed-fragment", (0..200).map(|s| mixed(s, 1)).collect()),
         "first" => refused("first", 0),
         "last" => refused("last", 2_047),
         _ => return None,
@@ -50,6 +52,14 @@ fn whole(name: &'static str, inputs: Vec<Vec<u8>>) -> Case {
         bytes,
         inputs,
     }
+}
+
+/// A lawful program of the tests: any token, on any registers, may follow another.
+fn mixed(seed: u64, stage: u8) -> Vec<u8> {
+    let case = generate::plain_program(&mut Rng::new(seed), 3, stage, 200);
+    let mut input = vec![b'3'];
+    input.extend(case.program);
+    input
 }
 
 /// The straight program with a fault at a token.

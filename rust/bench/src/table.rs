@@ -12,7 +12,7 @@ const PASSES: usize = 5;
 /// A table's heading, and its rows: words and the name of a case.
 type Section = (&'static str, &'static [(&'static str, &'static str)]);
 
-const SECTIONS: [Section; 3] = [
+const SECTIONS: [Section; 4] = [
     (
         "Programs",
         &[
@@ -39,6 +39,16 @@ const SECTIONS: [Section; 3] = [
             ("4 deep", "nested-4"),
             ("8 deep", "nested-8"),
             ("16 deep", "nested-16"),
+        ],
+    ),
+    (
+        "Tokens of every kind, in no order",
+        &[
+            ("200 vertex programs of up to 200 tokens", "mixed-vertex"),
+            (
+                "200 fragment programs of up to 200 tokens",
+                "mixed-fragment",
+            ),
         ],
     ),
 ];
