@@ -1,7 +1,7 @@
 -- What the exported functions answer, from what the functions that they call answer.
 -- Assumes nothing.
 use Prim.Native.Nat.{ℕ, _+_, _*_, _/_, _%_, _<_, _≤_}
-use mathlib.Core.Bool.{Bool, true, false, not, cond, _&&_, false≢true, and-false}
+use mathlib.Core.Bool.{Bool, true, false, not, cond, false≢true, and-false}
 use mathlib.Core.List.{List, [], _++_}
 use mathlib.Core.Path.{_≡_, refl, _∙_, sym, ap}
 use native.Mathlib.Omega.{arith}
