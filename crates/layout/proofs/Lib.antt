@@ -1,6 +1,8 @@
 pub mod Listed
+pub mod MaskBits
+pub mod OpcodeSets
 pub mod Rows
-pub mod ShapeSets
+pub mod SelectionLaws
 pub mod Shifts
 pub mod SourceKinds
 pub mod Stray

@@ -1,6 +1,7 @@
-// The opcodes, and what a token of each holds.
+// The opcodes, what a token of each holds, and what else a rule says of some of them. Every set of opcodes stands here and in `selection`.
 ghost use mathlib.Core.Path.{_≡_};
-ghost use Rattle.layout.specs.Opcodes.{shapeOf, sourceShape, secondShape};
+ghost use Rattle.layout.specs.Opcodes.{shapeOf, sourceShape, secondShape, isAdded, isFragmentOnly, isThreeWide, isMatrix, rowCount2, flowOf};
+ghost use Rattle.layout.specs.Sets.{amongOf};
 
 // What stands in the field of a source.
 pub enum OperandShape {
@@ -17,6 +18,28 @@ pub struct Shape {
     pub source2: OperandShape,
 }
 
+// What a token does to branches.
+pub enum Flow {
+    Plain,
+    Opener,
+    Els,
+    Eif,
+}
+
+pub const M33: u32 = 0x17;
+
+pub const M44: u32 = 0x18;
+
+pub const M34: u32 = 0x19;
+
+pub const ELS: u32 = 0x20;
+
+pub const EIF: u32 = 0x21;
+
+pub const KIL: u32 = 0x27;
+
+pub const TEX: u32 = 0x28;
+
 // Sets of opcodes, bit by bit from mov, 00: those that are listed, that have a destination, a source 1, and a source 2 other than a sampler.
 const LISTED: u64 = 0x3783_FFFF_FFFF;
 
@@ -26,24 +49,39 @@ const WITH_SOURCE1: u64 = 0x3780_FFFF_FFFF;
 
 const WITH_SOURCE2: u64 = 0x3600_F38E_08DE;
 
-const TEX: u32 = 0x28;
+// ddx, ddy, the openers, els and eif.
+const ADDED: u64 = 0x0003_FC00_0000;
+
+// ife, ine, ifg and ifl.
+const OPENERS: u64 = 0xF000_0000;
+
+// kil and tex.
+const FRAGMENT_ONLY: u64 = 0x0180_0000_0000;
+
+// nrm, crs, m33 and m34.
+const THREE_WIDE: u64 = 0x0282_4000;
+
+// m33, m44 and m34.
+const MATRICES: u64 = 0x0380_0000;
+
+// Whether an opcode is in a set.
+pub fn among(set: u64, opcode: u32) -> bool
+    ensures { λ r. ⌜ r ≡ amongOf set opcode ⌝ }
+{
+    if 64 <= opcode {
+        return false;
+    }
+    (set >> opcode) % 2 == 1
+}
 
 // The shape of every opcode number.
 pub fn shape_of(opcode: u32) -> Shape
     ensures { λ r. ⌜ r ≡ shapeOf opcode ⌝ }
 {
-    if 64 <= opcode {
-        return Shape {
-            listed: false,
-            destination: false,
-            source1: OperandShape::Unused,
-            source2: OperandShape::Unused,
-        };
-    }
-    let listed = (LISTED >> opcode) % 2 == 1;
-    let destination = (WITH_DESTINATION >> opcode) % 2 == 1;
-    let source1 = source((WITH_SOURCE1 >> opcode) % 2 == 1);
-    let source2 = second_source(opcode, (WITH_SOURCE2 >> opcode) % 2 == 1);
+    let listed = among(LISTED, opcode);
+    let destination = among(WITH_DESTINATION, opcode);
+    let source1 = source(among(WITH_SOURCE1, opcode));
+    let source2 = second_source(opcode, among(WITH_SOURCE2, opcode));
     Shape {
         listed,
         destination,
@@ -70,4 +108,63 @@ fn second_source(opcode: u32, used: bool) -> OperandShape
         return OperandShape::Sampler;
     }
     source(used)
+}
+
+// What every opcode number does to branches.
+pub fn flow_of(opcode: u32) -> Flow
+    ensures { λ r. ⌜ r ≡ flowOf opcode ⌝ }
+{
+    if among(OPENERS, opcode) {
+        return Flow::Opener;
+    }
+    if opcode == ELS {
+        return Flow::Els;
+    }
+    if opcode == EIF {
+        return Flow::Eif;
+    }
+    Flow::Plain
+}
+
+// Whether edition 1 does not have an opcode.
+pub fn is_added(opcode: u32) -> bool
+    ensures { λ r. ⌜ r ≡ isAdded opcode ⌝ }
+{
+    among(ADDED, opcode)
+}
+
+// Whether only fragment programs have it.
+pub fn is_fragment_only(opcode: u32) -> bool
+    ensures { λ r. ⌜ r ≡ isFragmentOnly opcode ⌝ }
+{
+    among(FRAGMENT_ONLY, opcode)
+}
+
+// Whether its result has no fourth component.
+pub fn is_three_wide(opcode: u32) -> bool
+    ensures { λ r. ⌜ r ≡ isThreeWide opcode ⌝ }
+{
+    among(THREE_WIDE, opcode)
+}
+
+pub fn is_matrix(opcode: u32) -> bool
+    ensures { λ r. ⌜ r ≡ isMatrix opcode ⌝ }
+{
+    among(MATRICES, opcode)
+}
+
+// How many registers source 2 spans.
+pub fn rows2(opcode: u32) -> u8
+    ensures { λ r. ⌜ r ≡ rowCount2 opcode ⌝ }
+{
+    if opcode < M33 {
+        return 1;
+    }
+    if M34 < opcode {
+        return 1;
+    }
+    if opcode != M44 {
+        return 3;
+    }
+    4
 }

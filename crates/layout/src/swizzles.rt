@@ -1,6 +1,6 @@
 // The components that a swizzle names, as a set: 1 for x, 2 for y, 4 for z, 8 for w.
 ghost use mathlib.Core.Path.{_≡_};
-ghost use Rattle.layout.specs.Swizzles.{componentsOf};
+ghost use Rattle.layout.specs.Swizzles.{componentsOf, selectorsAgree};
 
 // By swizzle byte. Bits 0-1 of the byte choose for x, bits 6-7 for w.
 const COMPONENTS: [u8; 256] = [
@@ -266,4 +266,12 @@ pub fn components(swizzle: u8) -> u8
     ensures { λ r. ⌜ r ≡ componentsOf swizzle ⌝ }
 {
     COMPONENTS[swizzle as usize]
+}
+
+// Whether all four selectors name one component: the set that they name has one member.
+pub fn selectors_agree(swizzle: u8) -> bool
+    ensures { λ r. ⌜ r ≡ selectorsAgree swizzle ⌝ }
+{
+    let set = components(swizzle);
+    (set == 1) | (set == 2) | (set == 4) | (set == 8)
 }

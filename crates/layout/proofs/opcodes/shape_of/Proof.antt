@@ -1,43 +1,50 @@
 -- `shape_of` meets its contract.
 -- Assumes nothing.
-use Rattle.layout.proofs.ShapeSets.{sets-are, past-sets}
 use borrow.Author.Needs.{needs}
+use Rattle.layout.specs.Opcodes.{rowOf, shapeOfRow}
+use Rattle.layout.proofs.OpcodeSets.{shape-by-sets}
 use Rattle.layout.proofs.opcodes.shape_of.Statement.{statement}
 use Rattle.layout.proofs.opcodes.shape_of.Tie as tie
 
-returns : tie.Need-returns
-returns c = past-sets _ (c .if1 .taken)
+among-requires : tie.Need-among-requires
+among-requires c κs = search needs
 
-shr-listed : tie.Need-shr-listed
-shr-listed c = search needs
+among-requires-2 : tie.Need-among-requires-2
+among-requires-2 c κs = search needs
 
-shr-destination : tie.Need-shr-destination
-shr-destination c = search needs
-
-shr-source : tie.Need-shr-source
-shr-source c = search needs
+among-requires-3 : tie.Need-among-requires-3
+among-requires-3 c κs = search needs
 
 source-requires : tie.Need-source-requires
 source-requires c κs = search needs
 
-shr-second-source : tie.Need-shr-second-source
-shr-second-source c = search needs
+among-requires-4 : tie.Need-among-requires-4
+among-requires-4 c κs = search needs
 
 second-source-requires : tie.Need-second-source-requires
 second-source-requires c κs = search needs
 
-returns-2 : tie.Need-returns-2
-returns-2 c = simp (c .second-source .ensures, c .before .source .ensures) (sets-are _ (c .before .before .if1 .left))
+returns : tie.Need-returns
+unfolding rowOf shapeOfRow
+returns c =
+    rw (
+      c .second-source .ensures,
+      c .before .among4 .ensures,
+      c .before .before .source .ensures,
+      c .before .before .before .among3 .ensures,
+      c .before .before .before .before .among2 .ensures,
+      c .before .before .before .before .before .among .ensures,
+    )
+    (shape-by-sets _ _ _ _ _ tt)
 
 pub shape-of-spec : {M : Type 1} → statement M
 shape-of-spec =
     tie.close
     (tie.spec
-    returns
-    shr-listed
-    shr-destination
-    shr-source
+    among-requires
+    among-requires-2
+    among-requires-3
     source-requires
-    shr-second-source
+    among-requires-4
     second-source-requires
-    returns-2)
+    returns)
