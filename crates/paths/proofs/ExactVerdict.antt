@@ -14,7 +14,7 @@ use Rattle.paths.specs.Unwritten.{SomePathReads}
 use Rattle.paths.specs.Nesting.{Branch, openBranches, innermost, misplacedFrom, misplacedAt}
 use Rattle.paths.specs.Faults.{accepted, refused, NoFault, FaultIs, tokenFaultAt, CleanBefore, FaultAt, FirstFault, Faultless}
 use Rattle.paths.specs.Check.{ending, verdictOf}
-use Rattle.paths.specs.Demand.{Exact}
+use Rattle.paths.specs.Demand.{ExactOverTokens}
 use Rattle.paths.proofs.Middle.{begin, number-begin, clean-begin, fault-begin}
 use Rattle.paths.proofs.Classified.{Refuses, Ends, classified, good-begin}
 use Rattle.paths.proofs.Cuts.{reads-cut}
@@ -143,7 +143,7 @@ module _ (prog : List PathToken) where
     refuses-off (inr (before, e)) (inl (clean, g)) = absurd (not-before n (length prog) before g (fault-inside prog n g))
     refuses-off (inr (before, e)) (inr (x, y, clean, z)) = e ∙ ending-of (openBranches prog) z ∙ cc
 
-pub exact : (prog : List PathToken) → Exact prog (verdictOf prog)
+pub exact : (prog : List PathToken) → ExactOverTokens prog (verdictOf prog)
 exact prog =
     let o = outcome prog (classified prog begin good-begin) in
     record {

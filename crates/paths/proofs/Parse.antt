@@ -9,7 +9,7 @@ use lib.ListN.{length, take, length-take}
 use Rattle.paths.specs.Paths.{Flow, plain, opener, els, eif, PathToken, visited}
 use Rattle.paths.specs.Nesting.{Branch, branchesAfter, misplaced, misplacedFrom, misplacedAt}
 use Rattle.paths.specs.Trees.{Block, empty, token, branch, branchEls, Cut, whole, inFirst, inSecond}
-use Rattle.paths.specs.Trees.{Fits, CutFits, tokensOf, cutTokens, WalksTree, Adequate}
+use Rattle.paths.specs.Trees.{BlockFits, CutFits, blockTokens, cutTokens, WalksTree, Adequate}
 use Rattle.paths.proofs.Trees.{visited-is-walk}
 
 -- one block after another
@@ -19,14 +19,14 @@ join (token t r) c = token t (join r c)
 join (branch o b f r) c = branch o b f (join r c)
 join (branchEls o b e d f r) c = branchEls o b e d f (join r c)
 
-tokens-join : (b c : Block) (ts : List PathToken) → tokensOf (join b c) ts ≡ tokensOf b (tokensOf c ts)
+tokens-join : (b c : Block) (ts : List PathToken) → blockTokens (join b c) ts ≡ blockTokens b (blockTokens c ts)
 unfolding join
 tokens-join empty c ts = refl
 tokens-join (token t r) c ts = ap (λ l. t ∷ l) (tokens-join r c ts)
-tokens-join (branch o b f r) c ts = ap (λ l. o ∷ tokensOf b (f ∷ l)) (tokens-join r c ts)
-tokens-join (branchEls o b e d f r) c ts = ap (λ l. o ∷ tokensOf b (e ∷ tokensOf d (f ∷ l))) (tokens-join r c ts)
+tokens-join (branch o b f r) c ts = ap (λ l. o ∷ blockTokens b (f ∷ l)) (tokens-join r c ts)
+tokens-join (branchEls o b e d f r) c ts = ap (λ l. o ∷ blockTokens b (e ∷ blockTokens d (f ∷ l))) (tokens-join r c ts)
 
-fits-join : (b c : Block) → Fits b → Fits c → Fits (join b c)
+fits-join : (b c : Block) → BlockFits b → BlockFits c → BlockFits (join b c)
 unfolding join
 fits-join empty c h k = k
 fits-join (token t r) c (a, h) k = (a, fits-join r c h k)
@@ -40,8 +40,8 @@ data Frame : Type 0 where
 
 abbrev plug : List Frame → List PathToken → List PathToken
 plug [] ts = ts
-plug (after-opener b o ∷ fs) ts = plug fs (tokensOf b (o ∷ ts))
-plug (after-els b o c e ∷ fs) ts = plug fs (tokensOf b (o ∷ tokensOf c (e ∷ ts)))
+plug (after-opener b o ∷ fs) ts = plug fs (blockTokens b (o ∷ ts))
+plug (after-els b o c e ∷ fs) ts = plug fs (blockTokens b (o ∷ blockTokens c (e ∷ ts)))
 
 abbrev toCut : List Frame → Cut → Cut
 toCut [] p = p
@@ -53,8 +53,8 @@ abbrev Stands : List Frame → List Branch → Type 0
 Stands [] [] = Unit {0}
 Stands [] (x ∷ bs) = ⊥
 Stands (f ∷ fs) [] = ⊥
-Stands (after-opener b o ∷ fs) (x ∷ bs) = (x .elsMet ≡ false) × Fits b × (o .flow ≡ opener) × Stands fs bs
-Stands (after-els b o c e ∷ fs) (x ∷ bs) = (x .elsMet ≡ true) × Fits b × (o .flow ≡ opener) × Fits c × (e .flow ≡ els) × Stands fs bs
+Stands (after-opener b o ∷ fs) (x ∷ bs) = (x .elsMet ≡ false) × BlockFits b × (o .flow ≡ opener) × Stands fs bs
+Stands (after-els b o c e ∷ fs) (x ∷ bs) = (x .elsMet ≡ true) × BlockFits b × (o .flow ≡ opener) × BlockFits c × (e .flow ≡ els) × Stands fs bs
 
 cut-tokens : (fs : List Frame) (p : Cut) → cutTokens (toCut fs p) ≡ plug fs (cutTokens p)
 cut-tokens [] p = refl
@@ -73,9 +73,9 @@ abbrev Tree : List PathToken → Type 0
 Tree ts = (p : Cut) × CutFits p × (cutTokens p ≡ ts)
 
 module _ (t : PathToken) (ts : List PathToken) (n : ℕ) where
-  grow : (k : Flow) → t .flow ≡ k → (fs : List Frame) (c : Block) (bs : List Branch) → Stands fs bs → Fits c → misplaced k bs ≡ false
-      → ((gs : List Frame) (d : Block) → Stands gs (branchesAfter k n bs) → Fits d → Tree (plug gs (tokensOf d ts)))
-      → Tree (plug fs (tokensOf c (t ∷ ts)))
+  grow : (k : Flow) → t .flow ≡ k → (fs : List Frame) (c : Block) (bs : List Branch) → Stands fs bs → BlockFits c → misplaced k bs ≡ false
+      → ((gs : List Frame) (d : Block) → Stands gs (branchesAfter k n bs) → BlockFits d → Tree (plug gs (blockTokens d ts)))
+      → Tree (plug fs (blockTokens c (t ∷ ts)))
   grow plain e fs c bs s h m ih =
       let q = ih fs (join c (token t empty)) s (fits-join c (token t empty) h (e, tt)) in
       (q .0, q .1, q .2 ∙ ap (plug fs) (tokens-join c (token t empty) ts))
@@ -95,8 +95,8 @@ module _ (t : PathToken) (ts : List PathToken) (n : ℕ) where
       let r = ih fs (join b (branchEls o d g c t empty)) s (fits-join b (branchEls o d g c t empty) hb (k, hd, j, h, e, tt)) in
       (r .0, r .1, r .2 ∙ ap (plug fs) (tokens-join b (branchEls o d g c t empty) ts))
 
-parse-from : (ts : List PathToken) (n : ℕ) (fs : List Frame) (c : Block) (bs : List Branch) → Stands fs bs → Fits c
-    → ((j : ℕ) → j < length ts → misplacedFrom bs n ts j ≡ false) → Tree (plug fs (tokensOf c ts))
+parse-from : (ts : List PathToken) (n : ℕ) (fs : List Frame) (c : Block) (bs : List Branch) → Stands fs bs → BlockFits c
+    → ((j : ℕ) → j < length ts → misplacedFrom bs n ts j ≡ false) → Tree (plug fs (blockTokens c ts))
 parse-from [] n fs c bs s h m = (toCut fs (whole c), cut-fits fs bs (whole c) s h, cut-tokens fs (whole c))
 parse-from (t ∷ ts) n fs c bs s h m =
     grow t ts n (t .flow) refl fs c bs s h (m 0 (omega arith))

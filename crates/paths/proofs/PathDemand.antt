@@ -10,7 +10,7 @@ use Rattle.paths.specs.Paths.{Source, PathToken, Path, visited}
 use Rattle.paths.specs.Unwritten.{ReadsUnwritten}
 use Rattle.paths.specs.Faults.{Answer, CleanBefore, FirstFault, FirstUnwritten, TokenFaultsNumbered}
 use Rattle.paths.specs.Check.{verdictOf}
-use Rattle.paths.specs.Demand.{Exact, Demand3}
+use Rattle.paths.specs.Demand.{ExactOverTokens, Demand3OverTokens}
 use Rattle.paths.proofs.Middle.{number-begin}
 use Rattle.paths.proofs.Cuts.{reads-cut}
 use Rattle.paths.proofs.Closing.{closes}
@@ -30,7 +30,7 @@ only-unwritten prog n part numbered (inl (before, inr (inl (e, x, y, z)))) = abs
 only-unwritten prog n part numbered (inl (before, inr (inr (e, x, y, z)))) = (before, x, y, z)
 only-unwritten prog n part numbered (inr (e, x, y, z)) = absurd (omega arith)
 
-pub demand3-of : (prog : List PathToken) (answer : Answer) → TokenFaultsNumbered prog → Exact prog answer → Demand3 prog answer
+pub demand3-of : (prog : List PathToken) (answer : Answer) → TokenFaultsNumbered prog → ExactOverTokens prog answer → Demand3OverTokens prog answer
 demand3-of prog answer numbered e = record {
   safe = λ a p.
       let (clean, none) = e .accepts .0 a in
@@ -42,5 +42,5 @@ demand3-of prog answer numbered e = record {
 }
 
 -- the check's own answer meets it
-pub demand3 : (prog : List PathToken) → TokenFaultsNumbered prog → Demand3 prog (verdictOf prog)
+pub demand3 : (prog : List PathToken) → TokenFaultsNumbered prog → Demand3OverTokens prog (verdictOf prog)
 demand3 prog numbered = demand3-of prog (verdictOf prog) numbered (exact prog)

@@ -21,30 +21,30 @@ pub data Cut : Type 0 where
   inSecond : Block → PathToken → Block → PathToken → Cut → Cut
 
 -- each token is what its place asks for
-abbrev pub Fits : Block → Type 0
-Fits empty = Unit {0}
-Fits (token t r) = (t .flow ≡ plain) × Fits r
-Fits (branch o b f r) = (o .flow ≡ opener) × Fits b × (f .flow ≡ eif) × Fits r
-Fits (branchEls o b e c f r) = (o .flow ≡ opener) × Fits b × (e .flow ≡ els) × Fits c × (f .flow ≡ eif) × Fits r
+abbrev pub BlockFits : Block → Type 0
+BlockFits empty = Unit {0}
+BlockFits (token t r) = (t .flow ≡ plain) × BlockFits r
+BlockFits (branch o b f r) = (o .flow ≡ opener) × BlockFits b × (f .flow ≡ eif) × BlockFits r
+BlockFits (branchEls o b e c f r) = (o .flow ≡ opener) × BlockFits b × (e .flow ≡ els) × BlockFits c × (f .flow ≡ eif) × BlockFits r
 
 -- the same of a program cut short
 abbrev pub CutFits : Cut → Type 0
-CutFits (whole b) = Fits b
-CutFits (inFirst b o p) = Fits b × (o .flow ≡ opener) × CutFits p
-CutFits (inSecond b o c e p) = Fits b × (o .flow ≡ opener) × Fits c × (e .flow ≡ els) × CutFits p
+CutFits (whole b) = BlockFits b
+CutFits (inFirst b o p) = BlockFits b × (o .flow ≡ opener) × CutFits p
+CutFits (inSecond b o c e p) = BlockFits b × (o .flow ≡ opener) × BlockFits c × (e .flow ≡ els) × CutFits p
 
 -- the tokens of a block, and then these
-abbrev pub tokensOf : Block → List PathToken → List PathToken
-tokensOf empty rest = rest
-tokensOf (token t r) rest = t ∷ tokensOf r rest
-tokensOf (branch o b f r) rest = o ∷ tokensOf b (f ∷ tokensOf r rest)
-tokensOf (branchEls o b e c f r) rest = o ∷ tokensOf b (e ∷ tokensOf c (f ∷ tokensOf r rest))
+abbrev pub blockTokens : Block → List PathToken → List PathToken
+blockTokens empty rest = rest
+blockTokens (token t r) rest = t ∷ blockTokens r rest
+blockTokens (branch o b f r) rest = o ∷ blockTokens b (f ∷ blockTokens r rest)
+blockTokens (branchEls o b e c f r) rest = o ∷ blockTokens b (e ∷ blockTokens c (f ∷ blockTokens r rest))
 
 -- the tokens of a program cut short
 abbrev pub cutTokens : Cut → List PathToken
-cutTokens (whole b) = tokensOf b []
-cutTokens (inFirst b o p) = tokensOf b (o ∷ cutTokens p)
-cutTokens (inSecond b o c e p) = tokensOf b (o ∷ tokensOf c (e ∷ cutTokens p))
+cutTokens (whole b) = blockTokens b []
+cutTokens (inFirst b o p) = blockTokens b (o ∷ cutTokens p)
+cutTokens (inSecond b o c e p) = blockTokens b (o ∷ blockTokens c (e ∷ cutTokens p))
 
 -- the number of the token after a block that begins at n
 abbrev pub after : ℕ → Block → ℕ
