@@ -7,4 +7,5 @@ pub mod Middle
 pub mod Parse
 pub mod PathCases
 pub mod PathDemand
+pub mod Threaded
 pub mod Trees

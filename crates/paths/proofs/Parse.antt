@@ -54,7 +54,8 @@ Stands [] [] = Unit {0}
 Stands [] (x ∷ bs) = ⊥
 Stands (f ∷ fs) [] = ⊥
 Stands (after-opener b o ∷ fs) (x ∷ bs) = (x .elsMet ≡ false) × BlockFits b × (o .flow ≡ opener) × Stands fs bs
-Stands (after-els b o c e ∷ fs) (x ∷ bs) = (x .elsMet ≡ true) × BlockFits b × (o .flow ≡ opener) × BlockFits c × (e .flow ≡ els) × Stands fs bs
+Stands (after-els b o c e ∷ fs) (x ∷ bs) =
+    (x .elsMet ≡ true) × BlockFits b × (o .flow ≡ opener) × BlockFits c × (e .flow ≡ els) × Stands fs bs
 
 cut-tokens : (fs : List Frame) (p : Cut) → cutTokens (toCut fs p) ≡ plug fs (cutTokens p)
 cut-tokens [] p = refl
