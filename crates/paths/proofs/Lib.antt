@@ -1,11 +1,14 @@
+pub mod Adequate
 pub mod Classified
 pub mod Closing
 pub mod Cuts
 pub mod ExactVerdict
 pub mod Levels
 pub mod Middle
+pub mod OwnEif
 pub mod Parse
 pub mod PathCases
 pub mod PathDemand
+pub mod Placed
 pub mod Threaded
 pub mod Trees

@@ -1,16 +1,14 @@
--- Every program with no token out of place is a tree, perhaps cut short; so `visited` is document 01's walk on each such program.
+-- Every program with no token out of place is a tree, perhaps cut short.
 -- Assumes nothing.
 use mathlib.Core.Path.{_≡_, refl, sym, ap, _∙_}
 use mathlib.Core.Bool.{true, false, true≢false}
 use mathlib.Core.List.{List, [], _∷_}
-use Prim.Native.Nat.{ℕ, zero, suc, _<_}
-use native.Mathlib.Omega.{arith}
-use lib.ListN.{length, take, length-take}
-use Rattle.paths.specs.Paths.{Flow, plain, opener, els, eif, PathToken, visited}
+use Prim.Native.Nat.{ℕ, suc}
+use Rattle.paths.specs.Paths.{Flow, plain, opener, els, eif, PathToken}
 use Rattle.paths.specs.Nesting.{Branch, branchesAfter, misplaced, misplacedFrom, misplacedAt}
 use Rattle.paths.specs.Trees.{Block, empty, token, branch, branchEls, Cut, whole, inFirst, inSecond}
-use Rattle.paths.specs.Trees.{BlockFits, CutFits, blockTokens, cutTokens, WalksTree, Adequate}
-use Rattle.paths.proofs.Trees.{visited-is-walk}
+use Rattle.paths.specs.Trees.{BlockFits, CutFits, blockTokens, cutTokens}
+use Rattle.paths.specs.Adequate.{TreeOf}
 
 -- one block after another
 join : Block → Block → Block
@@ -97,30 +95,11 @@ module _ (t : PathToken) (ts : List PathToken) (n : ℕ) where
       (r .0, r .1, r .2 ∙ ap (plug fs) (tokens-join b (branchEls o d g c t empty) ts))
 
 parse-from : (ts : List PathToken) (n : ℕ) (fs : List Frame) (c : Block) (bs : List Branch) → Stands fs bs → BlockFits c
-    → ((j : ℕ) → j < length ts → misplacedFrom bs n ts j ≡ false) → Tree (plug fs (blockTokens c ts))
+    → ((j : ℕ) → misplacedFrom bs n ts j ≡ false) → Tree (plug fs (blockTokens c ts))
 parse-from [] n fs c bs s h m = (toCut fs (whole c), cut-fits fs bs (whole c) s h, cut-tokens fs (whole c))
 parse-from (t ∷ ts) n fs c bs s h m =
-    grow t ts n (t .flow) refl fs c bs s h (m 0 (omega arith))
-    (λ gs d s′ h′. parse-from ts (suc n) gs d _ s′ h′ (λ j k. m (suc j) (omega arith)))
+    grow t ts n (t .flow) refl fs c bs s h (m 0)
+    (λ gs d s′ h′. parse-from ts (suc n) gs d _ s′ h′ (λ j. m (suc j)))
 
-parse : (prog : List PathToken) → ((j : ℕ) → j < length prog → misplacedAt prog j ≡ false) → Tree prog
-parse prog m = parse-from prog 0 [] empty [] tt tt m
-
--- what each path visits of such a program is document 01's walk over its tree
-pub adequate : (prog : List PathToken) → Adequate prog
-adequate prog m =
-    let q = parse prog m in
-    (q .0, q .1, q .2, λ p. ap (visited p) (sym (q .2)) ∙ visited-is-walk p (q .0) (q .1))
-
--- so it is of the program cut short after token n, where none up to there is out of place: these are the paths of refusal 21
-cut-placed : (ts : List PathToken) (bs : List Branch) (k n j : ℕ) → j < suc n
-    → misplacedFrom bs k (take (suc n) ts) j ≡ misplacedFrom bs k ts j
-cut-placed [] bs k n j h = refl
-cut-placed (t ∷ ts) bs k n zero h = refl
-cut-placed (t ∷ ts) bs k zero (suc j) h = absurd (omega arith)
-cut-placed (t ∷ ts) bs k (suc n) (suc j) h = cut-placed ts _ (suc k) n j (omega arith)
-
-pub adequate-cut : (prog : List PathToken) (n : ℕ) → ((j : ℕ) → j < suc n → misplacedAt prog j ≡ false) → WalksTree (take (suc n) prog)
-adequate-cut prog n m =
-    adequate (take (suc n) prog)
-    (λ j h. let l : j < suc n = omega (arith, rw length-take at h) in cut-placed prog [] 0 n j l ∙ m j l)
+pub parse : (prog : List PathToken) → ((j : ℕ) → misplacedAt prog j ≡ false) → (t : Cut) × TreeOf prog t
+parse prog m = let (t, h, e) = parse-from prog 0 [] empty [] tt tt m in (t, (h, e))

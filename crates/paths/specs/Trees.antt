@@ -1,11 +1,11 @@
--- Document 01, "Ways, reads and writes": its sentences on branches once more, over programs as trees. `visited` must agree with them.
-use mathlib.Core.Bool.{cond, false}
+-- Document 01, "Ways, reads and writes": its sentences on branches once more, over programs as trees. Adequate says that Paths and Nesting
+-- agree with them.
+use mathlib.Core.Bool.{cond}
 use mathlib.Core.List.{List, [], _∷_}
+use mathlib.Core.Logic.{_⊎_}
 use mathlib.Core.Path.{_≡_}
-use Prim.Native.Nat.{ℕ, suc, _<_}
-use lib.ListN.{length}
-use Rattle.paths.specs.Paths.{plain, opener, els, eif, PathToken, Path, Visit, visitOf, visited}
-use Rattle.paths.specs.Nesting.{misplacedAt}
+use Prim.Native.Nat.{ℕ, suc, max}
+use Rattle.paths.specs.Paths.{plain, opener, els, eif, PathToken, Path, Visit, visitOf}
 
 -- "A branch is an opener, a block, perhaps els and a second block, then eif." What follows the token or the branch stands last.
 pub data Block : Type 0 where
@@ -25,7 +25,8 @@ abbrev pub BlockFits : Block → Type 0
 BlockFits empty = Unit {0}
 BlockFits (token t r) = (t .flow ≡ plain) × BlockFits r
 BlockFits (branch o b f r) = (o .flow ≡ opener) × BlockFits b × (f .flow ≡ eif) × BlockFits r
-BlockFits (branchEls o b e c f r) = (o .flow ≡ opener) × BlockFits b × (e .flow ≡ els) × BlockFits c × (f .flow ≡ eif) × BlockFits r
+BlockFits (branchEls o b e c f r) =
+    (o .flow ≡ opener) × BlockFits b × (e .flow ≡ els) × BlockFits c × (f .flow ≡ eif) × BlockFits r
 
 -- the same of a program cut short
 abbrev pub CutFits : Cut → Type 0
@@ -79,10 +80,41 @@ cutWalk p n (inSecond b o c e q) =
     let k = after (suc m) c in
     walk p n b (visitOf m o ∷ cond (p m) (walk p (suc m) c []) (visitOf k e ∷ cutWalk p (suc k) q))
 
--- the program is a tree, perhaps cut short, and what each path visits is the walk over that tree
-abbrev pub WalksTree : List PathToken → Type 0
-WalksTree prog = (t : Cut) × CutFits t × (cutTokens t ≡ prog) × ((p : Path) → visited p prog ≡ cutWalk p 0 t)
+-- how many branches of a block are open at once
+abbrev pub blockDepth : Block → ℕ
+blockDepth empty = 0
+blockDepth (token t r) = blockDepth r
+blockDepth (branch o b f r) = max (suc (blockDepth b)) (blockDepth r)
+blockDepth (branchEls o b e c f r) = max (suc (max (blockDepth b) (blockDepth c))) (blockDepth r)
 
--- so it is of every program with no token out of place
-abbrev pub Adequate : List PathToken → Type 0
-Adequate prog = ((j : ℕ) → j < length prog → misplacedAt prog j ≡ false) → WalksTree prog
+-- the same of a program cut short
+abbrev pub cutDepth : Cut → ℕ
+cutDepth (whole b) = blockDepth b
+cutDepth (inFirst b o q) = max (blockDepth b) (suc (cutDepth q))
+cutDepth (inSecond b o c e q) = max (blockDepth b) (suc (max (blockDepth c) (cutDepth q)))
+
+-- in a block that begins at n, token i opens a branch, and the eif of that branch is token j
+abbrev pub HasBranch : ℕ → ℕ → ℕ → Block → Type 0
+HasBranch i j n empty = ⊥
+HasBranch i j n (token t r) = HasBranch i j (suc n) r
+HasBranch i j n (branch o b f r) =
+    let m = after (suc n) b in
+    ((i ≡ n) × (j ≡ m)) ⊎ HasBranch i j (suc n) b ⊎ HasBranch i j (suc m) r
+HasBranch i j n (branchEls o b e c f r) =
+    let m = after (suc n) b in
+    let k = after (suc m) c in
+    ((i ≡ n) × (j ≡ k)) ⊎ HasBranch i j (suc n) b ⊎ HasBranch i j (suc m) c ⊎ HasBranch i j (suc k) r
+
+-- the same of a program cut short, whose branches are not all cut short
+abbrev pub CutHasBranch : ℕ → ℕ → ℕ → Cut → Type 0
+CutHasBranch i j n (whole b) = HasBranch i j n b
+CutHasBranch i j n (inFirst b o q) = HasBranch i j n b ⊎ CutHasBranch i j (suc (after n b)) q
+CutHasBranch i j n (inSecond b o c e q) =
+    let m = after n b in
+    HasBranch i j n b ⊎ HasBranch i j (suc m) c ⊎ CutHasBranch i j (suc (after (suc m) c)) q
+
+-- token i opens a branch that is cut short
+abbrev pub LeavesOpen : ℕ → ℕ → Cut → Type 0
+LeavesOpen i n (whole b) = ⊥
+LeavesOpen i n (inFirst b o q) = (i ≡ after n b) ⊎ LeavesOpen i (suc (after n b)) q
+LeavesOpen i n (inSecond b o c e q) = (i ≡ after n b) ⊎ LeavesOpen i (suc (after (suc (after n b)) c)) q

@@ -1,0 +1,44 @@
+-- What Paths and Nesting say of a program as a list of tokens is what document 01's sentences say of it as a tree.
+use mathlib.Core.Bool.{cond, false}
+use mathlib.Core.List.{List, [], _∷_}
+use mathlib.Core.Logic.{_↔_}
+use mathlib.Core.Option.{none, some}
+use mathlib.Core.Path.{_≡_}
+use Prim.Native.Nat.{ℕ, suc, _≤_}
+use lib.Dec.{ltb}
+use lib.ListN.{take}
+use Rattle.paths.specs.Paths.{PathToken, Path, Visit, visited}
+use Rattle.paths.specs.Nesting.{misplacedAt, eifOf}
+use Rattle.paths.specs.Trees.{Cut, CutFits, cutTokens, cutWalk, cutDepth, CutHasBranch, LeavesOpen}
+
+-- the tree is one of the program: it has the program's tokens in their order, each where its place asks for it
+abbrev pub TreeOf : List PathToken → Cut → Type 0
+TreeOf prog t = CutFits t × (cutTokens t ≡ prog)
+
+-- "16 branches open" at most
+abbrev pub IsTree : List PathToken → Type 0
+IsTree prog = (t : Cut) × TreeOf prog t × (cutDepth t ≤ 16)
+
+-- For every program:
+-- No token is out of place exactly when the program, whole or cut short, is a tree at most sixteen deep.
+-- What a path visits is document 01's walk over the tree, whichever tree of the program that is.
+-- The eif of a branch is the branch's own in the tree; a branch that is cut short has none.
+pub record Adequate (prog : List PathToken) : Type 0 where
+  pub placed : ((j : ℕ) → misplacedAt prog j ≡ false) ↔ IsTree prog
+  pub walks : (t : Cut) → TreeOf prog t → (p : Path) → visited p prog ≡ cutWalk p 0 t
+  pub own-eif : (t : Cut) → TreeOf prog t → (i j : ℕ) → CutHasBranch i j 0 t → eifOf prog i ≡ some j
+  pub no-eif : (t : Cut) → TreeOf prog t → (i : ℕ) → LeavesOpen i 0 t → eifOf prog i ≡ none
+
+-- the visits to tokens before token n
+abbrev pub visitsBefore : ℕ → List Visit → List Visit
+visitsBefore n [] = []
+visitsBefore n (v ∷ later) = cond (ltb (v .number) n) (v ∷ visitsBefore n later) (visitsBefore n later)
+
+-- "On a program cut short it visits what is there": cut short before token n, a path visits those before n that it visits of the whole.
+-- "For refusal 21 at a token, the ways are those of the program cut short after that token; what comes later, faulty or not, doesn't
+-- matter." Fault 20 at this token and at earlier ones comes before 21: where none of these is out of place, the program cut short after
+-- token n is a tree, and the ways are its walks.
+pub record AdequateCut (prog : List PathToken) (n : ℕ) : Type 0 where
+  pub visits-what-is-there : (p : Path) → visited p (take n prog) ≡ visitsBefore n (visited p prog)
+  pub cut-is-tree : ((j : ℕ) → j ≤ n → misplacedAt prog j ≡ false) → IsTree (take (suc n) prog)
+  pub cut-walks : (t : Cut) → TreeOf (take (suc n) prog) t → (p : Path) → visited p (take (suc n) prog) ≡ cutWalk p 0 t
