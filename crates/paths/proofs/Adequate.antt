@@ -3,14 +3,14 @@
 use mathlib.Core.Path.{_≡_, refl, sym, ap, _∙_, subst}
 use mathlib.Core.Bool.{false}
 use mathlib.Core.List.{List, [], _∷_}
-use Prim.Native.Nat.{ℕ, zero, suc, _+_, _≤_}
+use Prim.Native.Nat.{ℕ, zero, suc, _+_, _≤_, _<_}
 use native.Mathlib.Omega.{arith}
 use lib.ListN.{take}
-use borrow.Author.Tests.{lt-ltb, le-ltb}
+use borrow.Author.Tests.{le-leb, lt-leb}
 use Rattle.paths.specs.Paths.{PathToken, Path, arrive, leave, visitOf, visitAt, visitsFrom, visited}
 use Rattle.paths.specs.Nesting.{Branch, misplacedFrom, misplacedAt}
 use Rattle.paths.specs.Trees.{Cut, cutWalk}
-use Rattle.paths.specs.Adequate.{TreeOf, IsTree, Adequate, visitsBefore, AdequateCut}
+use Rattle.paths.specs.Adequate.{TreeOf, IsTree, Adequate, visitsUpTo, AdequateCut}
 use Rattle.paths.proofs.Trees.{visited-is-walk}
 use Rattle.paths.proofs.Parse.{parse}
 use Rattle.paths.proofs.Placed.{cut-placed, cut-deep}
@@ -42,18 +42,18 @@ module _ (prog : List PathToken) where
 -- ---- programs cut short
 
 -- what is visited from token m on is not before it
-none-before : (p : Path) (ts : List PathToken) (d n m : ℕ) → n ≤ m → visitsBefore n (visitsFrom p d m ts) ≡ []
+none-before : (p : Path) (ts : List PathToken) (d n m : ℕ) → n < m → visitsUpTo n (visitsFrom p d m ts) ≡ []
 none-before p [] d n m h = refl
 none-before p (t ∷ ts) d n m h = go (arrive (t .flow) d) (λ a. none-before p ts (leave (t .flow) (p m) a) n (suc m) (omega arith))
   where
-    go : (a : ℕ) → ((a : ℕ) → visitsBefore n (visitsFrom p (leave (t .flow) (p m) a) (suc m) ts) ≡ [])
-        → visitsBefore n (visitAt a (visitOf m t) (visitsFrom p (leave (t .flow) (p m) a) (suc m) ts)) ≡ []
-    go zero ih = rw (le-ltb m n h) (ih 0)
+    go : (a : ℕ) → ((a : ℕ) → visitsUpTo n (visitsFrom p (leave (t .flow) (p m) a) (suc m) ts) ≡ [])
+        → visitsUpTo n (visitAt a (visitOf m t) (visitsFrom p (leave (t .flow) (p m) a) (suc m) ts)) ≡ []
+    go zero ih = rw (lt-leb m n h) (ih 0)
     go (suc a) ih = ih (suc a)
 
--- of tokens that are numbered from m the first i are those before token n
-there-from : (p : Path) (ts : List PathToken) (i d m n : ℕ) → m + i ≡ n
-    → visitsFrom p d m (take i ts) ≡ visitsBefore n (visitsFrom p d m ts)
+-- of tokens that are numbered from m the first i are those up to token n
+there-from : (p : Path) (ts : List PathToken) (i d m n : ℕ) → m + i ≡ suc n
+    → visitsFrom p d m (take i ts) ≡ visitsUpTo n (visitsFrom p d m ts)
 there-from p [] zero d m n e = refl
 there-from p [] (suc i) d m n e = refl
 there-from p (t ∷ ts) zero d m n e = sym (none-before p (t ∷ ts) d n m (omega arith))
@@ -61,10 +61,10 @@ there-from p (t ∷ ts) (suc i) d m n e =
     go (arrive (t .flow) d) (λ a. there-from p ts i (leave (t .flow) (p m) a) (suc m) n (omega arith))
   where
     go : (a : ℕ) → ((a : ℕ) → visitsFrom p (leave (t .flow) (p m) a) (suc m) (take i ts)
-        ≡ visitsBefore n (visitsFrom p (leave (t .flow) (p m) a) (suc m) ts))
+        ≡ visitsUpTo n (visitsFrom p (leave (t .flow) (p m) a) (suc m) ts))
         → visitAt a (visitOf m t) (visitsFrom p (leave (t .flow) (p m) a) (suc m) (take i ts))
-        ≡ visitsBefore n (visitAt a (visitOf m t) (visitsFrom p (leave (t .flow) (p m) a) (suc m) ts))
-    go zero ih = rw (lt-ltb m n (omega arith)) (ap (λ l. visitOf m t ∷ l) (ih 0))
+        ≡ visitsUpTo n (visitAt a (visitOf m t) (visitsFrom p (leave (t .flow) (p m) a) (suc m) ts))
+    go zero ih = rw (le-leb m n (omega arith)) (ap (λ l. visitOf m t ∷ l) (ih 0))
     go (suc a) ih = ih (suc a)
 
 -- a token is out of place in a program cut short where it is so in the whole
@@ -77,7 +77,7 @@ misplaced-cut (t ∷ ts) bs k (suc n) m (suc j) = misplaced-cut ts _ (suc k) n (
 
 pub adequate-cut : (prog : List PathToken) (n : ℕ) → AdequateCut prog n
 adequate-cut prog n = record {
-  visits-what-is-there = λ p. there-from p prog n 0 0 n (omega arith);
+  visits-what-is-there = λ p. there-from p prog (suc n) 0 0 n (omega arith);
   cut-is-tree = λ m. is-tree (take (suc n) prog) (misplaced-cut prog [] 0 n m);
   cut-walks = walked (take (suc n) prog);
 }

@@ -11,4 +11,5 @@ pub mod PathCases
 pub mod PathDemand
 pub mod Placed
 pub mod Threaded
+pub mod TreeCases
 pub mod Trees

@@ -22,7 +22,7 @@ ReadsFrom written s n (v ∷ later) =
 
 -- ---- a list and its set
 
-has-member : {xs : List ℕ} {c : ℕ} → List·Memᴰ c xs → has xs c ≡ true
+pub has-member : {xs : List ℕ} {c : ℕ} → List·Memᴰ c xs → has xs c ≡ true
 has-member {c = c} (List·Memᴰ·head {xs = xs} p) = ap (λ k. eqb k c || has xs c) (sym p) ∙ rw (is-true (eqb c c) (eqb-refl c))
 has-member {c = c} (List·Memᴰ·tail {x = x} m) = rw (has-member m) (or-true (eqb x c))
 

@@ -5,7 +5,7 @@ use mathlib.Core.Logic.{_↔_}
 use mathlib.Core.Option.{none, some}
 use mathlib.Core.Path.{_≡_}
 use Prim.Native.Nat.{ℕ, suc, _≤_}
-use lib.Dec.{ltb}
+use lib.Dec.{leb}
 use lib.ListN.{take}
 use Rattle.paths.specs.Paths.{PathToken, Path, Visit, visited}
 use Rattle.paths.specs.Nesting.{misplacedAt, eifOf}
@@ -15,7 +15,7 @@ use Rattle.paths.specs.Trees.{Cut, CutFits, cutTokens, cutWalk, cutDepth
 abbrev pub TreeOf : List PathToken → Cut → Type 0
 TreeOf prog t = CutFits t × (cutTokens t ≡ prog)
 
--- "16 branches open" at most
+-- the program is a tree in which at most 16 branches are open at once
 abbrev pub IsTree : List PathToken → Type 0
 IsTree prog = (t : Cut) × TreeOf prog t × (cutDepth t ≤ 16)
 
@@ -29,16 +29,17 @@ pub record Adequate (prog : List PathToken) : Type 0 where
   pub own-eif : (t : Cut) → TreeOf prog t → (i j : ℕ) → CutHasBranch i j 0 t → eifOf prog i ≡ some j
   pub no-eif : (t : Cut) → TreeOf prog t → (i : ℕ) → LeavesOpen i 0 t → eifOf prog i ≡ none
 
--- the visits to tokens before token n
-abbrev pub visitsBefore : ℕ → List Visit → List Visit
-visitsBefore n [] = []
-visitsBefore n (v ∷ later) = cond (ltb (v .number) n) (v ∷ visitsBefore n later) (visitsBefore n later)
+-- those of some visits that are to tokens up to token n
+abbrev pub visitsUpTo : ℕ → List Visit → List Visit
+visitsUpTo n [] = []
+visitsUpTo n (v ∷ later) = cond (leb (v .number) n) (v ∷ visitsUpTo n later) (visitsUpTo n later)
 
--- "On a program cut short it visits what is there": cut short before token n, a path visits those before n that it visits of the whole.
+-- "On a program cut short it visits what is there": of the program cut short after token n a path visits what it visits of the whole up to
+-- there.
 -- "For refusal 21 at a token, the ways are those of the program cut short after that token; what comes later, faulty or not, doesn't
--- matter." Fault 20 at this token and at earlier ones comes before 21: where none of these is out of place, the program cut short after
--- token n is a tree, and the ways are its walks.
+-- matter." Fault 20 at this token and at earlier ones comes before 21: where none of these is out of place, the program cut short is a
+-- tree, and what the ways visit is the walk over it, whichever tree that is.
 pub record AdequateCut (prog : List PathToken) (n : ℕ) : Type 0 where
-  pub visits-what-is-there : (p : Path) → visited p (take n prog) ≡ visitsBefore n (visited p prog)
+  pub visits-what-is-there : (p : Path) → visited p (take (suc n) prog) ≡ visitsUpTo n (visited p prog)
   pub cut-is-tree : ((j : ℕ) → j ≤ n → misplacedAt prog j ≡ false) → IsTree (take (suc n) prog)
   pub cut-walks : (t : Cut) → TreeOf (take (suc n) prog) t → (p : Path) → visited p (take (suc n) prog) ≡ cutWalk p 0 t
