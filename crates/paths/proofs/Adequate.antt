@@ -8,12 +8,13 @@ use native.Mathlib.Omega.{arith}
 use lib.ListN.{take}
 use borrow.Author.Tests.{le-leb, lt-leb}
 use Rattle.paths.specs.Paths.{PathToken, Path, arrive, leave, visitOf, visitAt, visitsFrom, visited}
-use Rattle.paths.specs.Nesting.{Branch, misplacedFrom, misplacedAt}
+use Rattle.paths.specs.Nesting.{Branch, openBranches, misplacedFrom, misplacedAt, innermost}
 use Rattle.paths.specs.Trees.{Cut, cutWalk}
 use Rattle.paths.specs.Adequate.{TreeOf, IsTree, Adequate, visitsUpTo, AdequateCut}
 use Rattle.paths.proofs.Trees.{visited-is-walk}
 use Rattle.paths.proofs.Parse.{parse}
 use Rattle.paths.proofs.Placed.{cut-placed, cut-deep}
+use Rattle.paths.proofs.LeftOpen.{cut-left}
 use Rattle.paths.proofs.OwnEif.{cut-own, cut-open}
 
 -- ---- whole programs, and programs that end anywhere
@@ -37,6 +38,7 @@ module _ (prog : List PathToken) where
     walks = walked;
     own-eif = λ t h i j b. cut-own prog i j t (h .0) 0 (sym (h .1)) b;
     no-eif = λ t h i b. cut-open prog i t (h .0) 0 (sym (h .1)) b;
+    left-open = λ t h. ap (λ ts. innermost (openBranches ts)) (sym (h .1)) ∙ cut-left t (h .0) [] 0 .last;
   }
 
 -- ---- programs cut short

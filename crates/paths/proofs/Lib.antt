@@ -3,6 +3,7 @@ pub mod Classified
 pub mod Closing
 pub mod Cuts
 pub mod ExactVerdict
+pub mod LeftOpen
 pub mod Levels
 pub mod Middle
 pub mod OwnEif

@@ -9,7 +9,7 @@ use Prim.Native.Nat.{ℕ, zero, suc, _≤_}
 use native.Mathlib.Omega.{arith}
 use lib.ListN.{replicate}
 use Rattle.paths.specs.Paths.{opener, els, eif, PathToken, Path, visited}
-use Rattle.paths.specs.Nesting.{misplacedAt, eifOf}
+use Rattle.paths.specs.Nesting.{openBranches, misplacedAt, innermost, eifOf}
 use Rattle.paths.specs.Trees.{Block, empty, token, branch, branchEls, Cut, whole, inFirst, cutWalk}
 use Rattle.paths.specs.Adequate.{TreeOf, IsTree, visitsUpTo}
 use Rattle.paths.proofs.Adequate.{adequate, adequate-cut}
@@ -37,12 +37,21 @@ outer-eif = adequate nested .own-eif tree is-tree 0 8 (inl (refl, refl))
 inner-eif : eifOf nested 1 ≡ some 5
 inner-eif = adequate nested .own-eif tree is-tree 1 5 (inr (inl (inl (refl, refl))))
 
--- cut short after its inner branch the outer one has no eif
+-- cut short after its inner branch the outer one is open and has no eif
+abbrev cut : List PathToken
+cut = bare opener ∷ bare opener ∷ write 0 ∷ bare els ∷ write 1 ∷ bare eif ∷ []
+
 abbrev cut-tree : Cut
 cut-tree = inFirst empty (bare opener) (whole inner)
 
-no-outer-eif : eifOf (bare opener ∷ bare opener ∷ write 0 ∷ bare els ∷ write 1 ∷ bare eif ∷ []) 0 ≡ none
-no-outer-eif = adequate _ .no-eif cut-tree ((tt, refl, (refl, (refl, tt), refl, (refl, tt), refl, tt)), refl) 0 (inl refl)
+is-cut-tree : TreeOf cut cut-tree
+is-cut-tree = ((tt, refl, (refl, (refl, tt), refl, (refl, tt), refl, tt)), refl)
+
+no-outer-eif : eifOf cut 0 ≡ none
+no-outer-eif = adequate cut .no-eif cut-tree is-cut-tree 0 (inl refl)
+
+outer-open : innermost (openBranches cut) ≡ some 0
+outer-open = adequate cut .left-open cut-tree is-cut-tree
 
 -- an eif alone is no tree, nor are seventeen openers
 eif-alone : ¬ IsTree (bare eif ∷ [])

@@ -8,8 +8,8 @@ use Prim.Native.Nat.{ℕ, suc, _≤_}
 use lib.Dec.{leb}
 use lib.ListN.{take}
 use Rattle.paths.specs.Paths.{PathToken, Path, Visit, visited}
-use Rattle.paths.specs.Nesting.{misplacedAt, eifOf}
-use Rattle.paths.specs.Trees.{Cut, CutFits, cutTokens, cutWalk, cutDepth, CutHasBranch, LeavesOpen}
+use Rattle.paths.specs.Nesting.{openBranches, misplacedAt, innermost, eifOf}
+use Rattle.paths.specs.Trees.{Cut, CutFits, cutTokens, cutWalk, cutDepth, CutHasBranch, LeavesOpen, innermostLeft}
 
 -- the tree is one of the program: it has the program's tokens in their order, each where its place asks for it
 abbrev pub TreeOf : List PathToken → Cut → Type 0
@@ -23,11 +23,13 @@ IsTree prog = (t : Cut) × TreeOf prog t × (cutDepth t ≤ 16)
 -- No token is out of place exactly when the program, whole or cut short, is a tree at most sixteen deep.
 -- What a path visits is document 01's walk over the tree, whichever tree of the program that is.
 -- The eif of a branch is the branch's own in the tree; a branch that is cut short has none.
+-- The innermost branch that is open at the end is the innermost that is cut short.
 pub record Adequate (prog : List PathToken) : Type 0 where
   pub placed : ((j : ℕ) → misplacedAt prog j ≡ false) ↔ IsTree prog
   pub walks : (t : Cut) → TreeOf prog t → (p : Path) → visited p prog ≡ cutWalk p 0 t
   pub own-eif : (t : Cut) → TreeOf prog t → (i j : ℕ) → CutHasBranch i j 0 t → eifOf prog i ≡ some j
   pub no-eif : (t : Cut) → TreeOf prog t → (i : ℕ) → LeavesOpen i 0 t → eifOf prog i ≡ none
+  pub left-open : (t : Cut) → TreeOf prog t → innermost (openBranches prog) ≡ innermostLeft none 0 t
 
 -- those of some visits that are to tokens up to token n
 abbrev pub visitsUpTo : ℕ → List Visit → List Visit

@@ -3,6 +3,7 @@
 use mathlib.Core.Bool.{cond}
 use mathlib.Core.List.{List, [], _∷_}
 use mathlib.Core.Logic.{_⊎_}
+use mathlib.Core.Option.{Option, some}
 use mathlib.Core.Path.{_≡_}
 use Prim.Native.Nat.{ℕ, suc, max}
 use Rattle.paths.specs.Paths.{plain, opener, els, eif, PathToken, Path, Visit, visitOf}
@@ -118,3 +119,9 @@ abbrev pub LeavesOpen : ℕ → ℕ → Cut → Type 0
 LeavesOpen i n (whole b) = ⊥
 LeavesOpen i n (inFirst b o q) = (i ≡ after n b) ⊎ LeavesOpen i (suc (after n b)) q
 LeavesOpen i n (inSecond b o c e q) = (i ≡ after n b) ⊎ LeavesOpen i (suc (after (suc (after n b)) c)) q
+
+-- the innermost opener of a branch that is cut short, where any is; else this one
+abbrev pub innermostLeft : Option ℕ → ℕ → Cut → Option ℕ
+innermostLeft outer n (whole b) = outer
+innermostLeft outer n (inFirst b o q) = let m = after n b in innermostLeft (some m) (suc m) q
+innermostLeft outer n (inSecond b o c e q) = let m = after n b in innermostLeft (some m) (suc (after (suc m) c)) q
