@@ -14,3 +14,4 @@ pub mod Placed
 pub mod Threaded
 pub mod TreeCases
 pub mod Trees
+pub mod WrittenEarlier

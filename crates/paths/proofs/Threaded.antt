@@ -26,13 +26,27 @@ pub has-member : {xs : List ℕ} {c : ℕ} → List·Memᴰ c xs → has xs c �
 has-member {c = c} (List·Memᴰ·head {xs = xs} p) = ap (λ k. eqb k c || has xs c) (sym p) ∙ rw (is-true (eqb c c) (eqb-refl c))
 has-member {c = c} (List·Memᴰ·tail {x = x} m) = rw (has-member m) (or-true (eqb x c))
 
-lacks-member : (xs : List ℕ) (c : ℕ) → ¬ List·Memᴰ c xs → has xs c ≡ false
-lacks-member [] c h = refl
-lacks-member (x ∷ xs) c h = go (eqb x c) refl (lacks-member xs c (λ m. h (List·Memᴰ·tail m)))
+pub member-has : (xs : List ℕ) (c : ℕ) → has xs c ≡ true → List·Memᴰ c xs
+member-has [] c h = absurd (true≢false (sym h))
+member-has (x ∷ xs) c h = go (eqb x c) refl h (member-has xs c)
   where
-    go : (b : Bool) → eqb x c ≡ b → has xs c ≡ false → (b || has xs c) ≡ false
-    go true e l = absurd (h (List·Memᴰ·head (sym (eqb→eq x c (rw e tt)))))
-    go false e l = l
+    go : (b : Bool) → eqb x c ≡ b → (b || has xs c) ≡ true → (has xs c ≡ true → List·Memᴰ c xs) → List·Memᴰ c (x ∷ xs)
+    go true e k ih = List·Memᴰ·head (sym (eqb→eq x c (rw e tt)))
+    go false e k ih = List·Memᴰ·tail (ih k)
+
+lacks-member : (xs : List ℕ) (c : ℕ) → ¬ List·Memᴰ c xs → has xs c ≡ false
+lacks-member xs c h = go (has xs c) refl
+  where
+    go : (b : Bool) → has xs c ≡ b → b ≡ false
+    go true e = absurd (h (member-has xs c e))
+    go false e = refl
+
+-- one visit more, which does not write the component
+pub still-unwritten : (v : Visit) {c : ℕ} {earlier : List Visit} → has (v .token .writes) c ≡ false → Unwritten c earlier
+    → Unwritten c (v ∷ earlier)
+still-unwritten v {c} lacked h u (List·Memᴰ·head p) m =
+    true≢false (sym (ap (λ x. has (x .token .writes) c) (sym p) ∙ has-member m) ∙ lacked)
+still-unwritten v lacked h u (List·Memᴰ·tail e) m = h u e m
 
 -- ---- both ways
 
@@ -48,12 +62,8 @@ module _ (s : Source) (n : ℕ) where
     at-token = r .at-token;
     component = r .component;
     reads-it = r .reads-it;
-    unwritten = none;
+    unwritten = still-unwritten v lacked (r .unwritten);
   }
-    where
-      none : Unwritten (r .component) (v ∷ r .earlier)
-      none u (List·Memᴰ·head p) m = true≢false (sym (ap (λ x. has (x .token .writes) (r .component)) (sym p) ∙ has-member m) ∙ lacked)
-      none u (List·Memᴰ·tail e) m = r .unwritten u e m
 
   sentence : (visits : List Visit) (w : ComponentSet) → ReadsFrom w s n visits
       → (r : ReadsUnwritten s n visits) × (w (r .component) ≡ false)
