@@ -12,8 +12,8 @@ use Rattle.paths.specs.Paths.{Source, PathToken, Path, Visit, visited}
 abbrev pub Unwritten : ℕ → List Visit → Type 0
 Unwritten component earlier = (v : Visit) → List·Memᴰ v earlier → ¬ List·Memᴰ component (v .token .writes)
 
--- Among the visits of a path is one to token n that reads, through the source, a component which is unwritten there. "Each token it visits
--- first reads and then adds what it writes": what the visit itself writes is not earlier.
+-- Among the visits of a path is one to token n that reads, through the source, a component which is unwritten there. As "each token it
+-- visits first reads and then adds what it writes", what that visit itself writes is not earlier.
 pub record ReadsUnwritten (s : Source) (n : ℕ) (visits : List Visit) : Type 0 where
   pub earlier : List Visit
   pub visit : Visit
