@@ -62,7 +62,7 @@ met (t ∷ ts) bs n c p i d h l =
     met-step n (visitOf n t) refl (λ j. eifFrom j (suc n) ts) (λ e. visitsFrom p e (suc n) ts) (p n) (t .flow) i d bs h l
     (c .placed 0 (omega arith)) (λ j e k m. met ts _ (suc n) (closed-later t c) p j e k m)
 
-drop-next : (prog : List PathToken) (n : ℕ) (t : PathToken) (ts : List PathToken) → drop n prog ≡ t ∷ ts → drop (suc n) prog ≡ ts
+pub drop-next : (prog : List PathToken) (n : ℕ) (t : PathToken) (ts : List PathToken) → drop n prog ≡ t ∷ ts → drop (suc n) prog ≡ ts
 drop-next [] zero t ts e = absurd (nil≢cons e)
 drop-next [] (suc n) t ts e = absurd (nil≢cons e)
 drop-next (x ∷ xs) zero t ts e = tail-eq-of-cons-eq e

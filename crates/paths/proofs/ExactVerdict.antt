@@ -14,10 +14,10 @@ use Rattle.paths.specs.Unwritten.{SomePathReads}
 use Rattle.paths.specs.Nesting.{Branch, openBranches, innermost, misplacedFrom, misplacedAt}
 use Rattle.paths.specs.Faults.{accepted, refused, NoFault, FaultIs, tokenFaultAt, CleanBefore, FaultAt, FirstFault, Faultless}
 use Rattle.paths.specs.Check.{ending, verdictOf}
-use Rattle.paths.specs.Demand.{Exact}
+use Rattle.paths.specs.Demand.{ExactOverTokens}
 use Rattle.paths.proofs.Middle.{begin, number-begin, clean-begin, fault-begin}
 use Rattle.paths.proofs.Classified.{Refuses, Ends, classified, good-begin}
-use Rattle.paths.proofs.Cuts.{reads-cut}
+use Rattle.paths.proofs.Cuts.{unwritten-cut}
 
 -- ---- a token's first fault is one
 
@@ -59,8 +59,7 @@ misplaced-inside (t ∷ ts) bs k (suc n) e = let h = misplaced-inside ts _ (suc 
 
 reads-inside : (prog : List PathToken) (s : Source) (n : ℕ) → SomePathReads s prog n → n < length prog
 reads-inside prog s n (p, r) =
-    let (i, h, e, z) = reads-cut p s n (take (suc n) prog) _ 0 0 r in
-    let q = number-begin i in
+    let h = unwritten-cut (take (suc n) prog) p s n r .0 in
     omega (arith, rw length-take at h)
 
 fault-inside : (prog : List PathToken) (n : ℕ) {number part : ℕ} → FaultAt prog n number part → n < length prog
@@ -143,7 +142,7 @@ module _ (prog : List PathToken) where
     refuses-off (inr (before, e)) (inl (clean, g)) = absurd (not-before n (length prog) before g (fault-inside prog n g))
     refuses-off (inr (before, e)) (inr (x, y, clean, z)) = e ∙ ending-of (openBranches prog) z ∙ cc
 
-pub exact : (prog : List PathToken) → Exact prog (verdictOf prog)
+pub exact : (prog : List PathToken) → ExactOverTokens prog (verdictOf prog)
 exact prog =
     let o = outcome prog (classified prog begin good-begin) in
     record {

@@ -1,10 +1,17 @@
+pub mod Adequate
 pub mod Classified
 pub mod Closing
 pub mod Cuts
 pub mod ExactVerdict
+pub mod LeftOpen
 pub mod Levels
 pub mod Middle
+pub mod OwnEif
 pub mod Parse
 pub mod PathCases
 pub mod PathDemand
+pub mod Placed
+pub mod Threaded
+pub mod TreeCases
 pub mod Trees
+pub mod WrittenEarlier

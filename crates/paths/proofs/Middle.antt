@@ -11,11 +11,12 @@ use native.Mathlib.Nat.{zero-add}
 use lib.ListN.{take}
 use Rattle.paths.specs.Paths.{Source, source1, source2, TokenFault, PathToken}
 use Rattle.paths.specs.Paths.{Path, arrive, leave, Visit, visitOf, visitAt, visitsFrom}
-use Rattle.paths.specs.Unwritten.{ComponentSet, nothing, ReadsFrom, SomePathReads}
+use Rattle.paths.specs.Unwritten.{ComponentSet, nothing, SomePathReads}
 use Rattle.paths.specs.Nesting.{misplacedFrom}
 use Rattle.paths.specs.Faults.{NoFault, FaultIs, tokenFaultAt, Clean, FaultAt}
 use Rattle.paths.specs.Check.{State, nextState, start}
 use Rattle.paths.proofs.Levels.{writtenAt}
+use Rattle.paths.proofs.Threaded.{ReadsFrom, threaded-is-sentence}
 
 -- Between two tokens: the number of the next one, the state of the check, where each path stands and what it has written.
 pub record Middle : Type 0 where
@@ -78,7 +79,10 @@ reads-later t m s ts i = (off, on)
         (p, tail-on (m .written p) s _ (m .number) t _ (omega arith) (arrive (t .flow) (m .position p)) r)
 
 reads-begin : (s : Source) (prog : List PathToken) (n : ℕ) → SomeReads begin s prog n ↔ SomePathReads s prog n
-reads-begin s prog n = (λ r. (r .0, rw number-begin at (r .1)), λ r. (r .0, rw number-begin (r .1)))
+reads-begin s prog n = (
+  λ r. (r .0, threaded-is-sentence s n _ .0 (rw number-begin at (r .1))),
+  λ r. (r .0, rw number-begin (threaded-is-sentence s n _ .1 (r .1))),
+)
 
 -- ---- faults carried from one notion of reading to another
 

@@ -1,16 +1,14 @@
--- Every program with no token out of place is a tree, perhaps cut short; so `visited` is document 01's walk on each such program.
+-- Every program with no token out of place is a tree, perhaps cut short.
 -- Assumes nothing.
 use mathlib.Core.Path.{_≡_, refl, sym, ap, _∙_}
 use mathlib.Core.Bool.{true, false, true≢false}
 use mathlib.Core.List.{List, [], _∷_}
-use Prim.Native.Nat.{ℕ, zero, suc, _<_}
-use native.Mathlib.Omega.{arith}
-use lib.ListN.{length, take, length-take}
-use Rattle.paths.specs.Paths.{Flow, plain, opener, els, eif, PathToken, visited}
+use Prim.Native.Nat.{ℕ, suc}
+use Rattle.paths.specs.Paths.{Flow, plain, opener, els, eif, PathToken}
 use Rattle.paths.specs.Nesting.{Branch, branchesAfter, misplaced, misplacedFrom, misplacedAt}
 use Rattle.paths.specs.Trees.{Block, empty, token, branch, branchEls, Cut, whole, inFirst, inSecond}
-use Rattle.paths.specs.Trees.{Fits, CutFits, tokensOf, cutTokens, WalksTree, Adequate}
-use Rattle.paths.proofs.Trees.{visited-is-walk}
+use Rattle.paths.specs.Trees.{BlockFits, CutFits, blockTokens, cutTokens}
+use Rattle.paths.specs.Adequate.{TreeOf}
 
 -- one block after another
 join : Block → Block → Block
@@ -19,14 +17,14 @@ join (token t r) c = token t (join r c)
 join (branch o b f r) c = branch o b f (join r c)
 join (branchEls o b e d f r) c = branchEls o b e d f (join r c)
 
-tokens-join : (b c : Block) (ts : List PathToken) → tokensOf (join b c) ts ≡ tokensOf b (tokensOf c ts)
+tokens-join : (b c : Block) (ts : List PathToken) → blockTokens (join b c) ts ≡ blockTokens b (blockTokens c ts)
 unfolding join
 tokens-join empty c ts = refl
 tokens-join (token t r) c ts = ap (λ l. t ∷ l) (tokens-join r c ts)
-tokens-join (branch o b f r) c ts = ap (λ l. o ∷ tokensOf b (f ∷ l)) (tokens-join r c ts)
-tokens-join (branchEls o b e d f r) c ts = ap (λ l. o ∷ tokensOf b (e ∷ tokensOf d (f ∷ l))) (tokens-join r c ts)
+tokens-join (branch o b f r) c ts = ap (λ l. o ∷ blockTokens b (f ∷ l)) (tokens-join r c ts)
+tokens-join (branchEls o b e d f r) c ts = ap (λ l. o ∷ blockTokens b (e ∷ blockTokens d (f ∷ l))) (tokens-join r c ts)
 
-fits-join : (b c : Block) → Fits b → Fits c → Fits (join b c)
+fits-join : (b c : Block) → BlockFits b → BlockFits c → BlockFits (join b c)
 unfolding join
 fits-join empty c h k = k
 fits-join (token t r) c (a, h) k = (a, fits-join r c h k)
@@ -40,8 +38,8 @@ data Frame : Type 0 where
 
 abbrev plug : List Frame → List PathToken → List PathToken
 plug [] ts = ts
-plug (after-opener b o ∷ fs) ts = plug fs (tokensOf b (o ∷ ts))
-plug (after-els b o c e ∷ fs) ts = plug fs (tokensOf b (o ∷ tokensOf c (e ∷ ts)))
+plug (after-opener b o ∷ fs) ts = plug fs (blockTokens b (o ∷ ts))
+plug (after-els b o c e ∷ fs) ts = plug fs (blockTokens b (o ∷ blockTokens c (e ∷ ts)))
 
 abbrev toCut : List Frame → Cut → Cut
 toCut [] p = p
@@ -53,8 +51,9 @@ abbrev Stands : List Frame → List Branch → Type 0
 Stands [] [] = Unit {0}
 Stands [] (x ∷ bs) = ⊥
 Stands (f ∷ fs) [] = ⊥
-Stands (after-opener b o ∷ fs) (x ∷ bs) = (x .elsMet ≡ false) × Fits b × (o .flow ≡ opener) × Stands fs bs
-Stands (after-els b o c e ∷ fs) (x ∷ bs) = (x .elsMet ≡ true) × Fits b × (o .flow ≡ opener) × Fits c × (e .flow ≡ els) × Stands fs bs
+Stands (after-opener b o ∷ fs) (x ∷ bs) = (x .elsMet ≡ false) × BlockFits b × (o .flow ≡ opener) × Stands fs bs
+Stands (after-els b o c e ∷ fs) (x ∷ bs) =
+    (x .elsMet ≡ true) × BlockFits b × (o .flow ≡ opener) × BlockFits c × (e .flow ≡ els) × Stands fs bs
 
 cut-tokens : (fs : List Frame) (p : Cut) → cutTokens (toCut fs p) ≡ plug fs (cutTokens p)
 cut-tokens [] p = refl
@@ -73,9 +72,9 @@ abbrev Tree : List PathToken → Type 0
 Tree ts = (p : Cut) × CutFits p × (cutTokens p ≡ ts)
 
 module _ (t : PathToken) (ts : List PathToken) (n : ℕ) where
-  grow : (k : Flow) → t .flow ≡ k → (fs : List Frame) (c : Block) (bs : List Branch) → Stands fs bs → Fits c → misplaced k bs ≡ false
-      → ((gs : List Frame) (d : Block) → Stands gs (branchesAfter k n bs) → Fits d → Tree (plug gs (tokensOf d ts)))
-      → Tree (plug fs (tokensOf c (t ∷ ts)))
+  grow : (k : Flow) → t .flow ≡ k → (fs : List Frame) (c : Block) (bs : List Branch) → Stands fs bs → BlockFits c → misplaced k bs ≡ false
+      → ((gs : List Frame) (d : Block) → Stands gs (branchesAfter k n bs) → BlockFits d → Tree (plug gs (blockTokens d ts)))
+      → Tree (plug fs (blockTokens c (t ∷ ts)))
   grow plain e fs c bs s h m ih =
       let q = ih fs (join c (token t empty)) s (fits-join c (token t empty) h (e, tt)) in
       (q .0, q .1, q .2 ∙ ap (plug fs) (tokens-join c (token t empty) ts))
@@ -95,31 +94,12 @@ module _ (t : PathToken) (ts : List PathToken) (n : ℕ) where
       let r = ih fs (join b (branchEls o d g c t empty)) s (fits-join b (branchEls o d g c t empty) hb (k, hd, j, h, e, tt)) in
       (r .0, r .1, r .2 ∙ ap (plug fs) (tokens-join b (branchEls o d g c t empty) ts))
 
-parse-from : (ts : List PathToken) (n : ℕ) (fs : List Frame) (c : Block) (bs : List Branch) → Stands fs bs → Fits c
-    → ((j : ℕ) → j < length ts → misplacedFrom bs n ts j ≡ false) → Tree (plug fs (tokensOf c ts))
+parse-from : (ts : List PathToken) (n : ℕ) (fs : List Frame) (c : Block) (bs : List Branch) → Stands fs bs → BlockFits c
+    → ((j : ℕ) → misplacedFrom bs n ts j ≡ false) → Tree (plug fs (blockTokens c ts))
 parse-from [] n fs c bs s h m = (toCut fs (whole c), cut-fits fs bs (whole c) s h, cut-tokens fs (whole c))
 parse-from (t ∷ ts) n fs c bs s h m =
-    grow t ts n (t .flow) refl fs c bs s h (m 0 (omega arith))
-    (λ gs d s′ h′. parse-from ts (suc n) gs d _ s′ h′ (λ j k. m (suc j) (omega arith)))
+    grow t ts n (t .flow) refl fs c bs s h (m 0)
+    (λ gs d s′ h′. parse-from ts (suc n) gs d _ s′ h′ (λ j. m (suc j)))
 
-parse : (prog : List PathToken) → ((j : ℕ) → j < length prog → misplacedAt prog j ≡ false) → Tree prog
-parse prog m = parse-from prog 0 [] empty [] tt tt m
-
--- what each path visits of such a program is document 01's walk over its tree
-pub adequate : (prog : List PathToken) → Adequate prog
-adequate prog m =
-    let q = parse prog m in
-    (q .0, q .1, q .2, λ p. ap (visited p) (sym (q .2)) ∙ visited-is-walk p (q .0) (q .1))
-
--- so it is of the program cut short after token n, where none up to there is out of place: these are the paths of refusal 21
-cut-placed : (ts : List PathToken) (bs : List Branch) (k n j : ℕ) → j < suc n
-    → misplacedFrom bs k (take (suc n) ts) j ≡ misplacedFrom bs k ts j
-cut-placed [] bs k n j h = refl
-cut-placed (t ∷ ts) bs k n zero h = refl
-cut-placed (t ∷ ts) bs k zero (suc j) h = absurd (omega arith)
-cut-placed (t ∷ ts) bs k (suc n) (suc j) h = cut-placed ts _ (suc k) n j (omega arith)
-
-pub adequate-cut : (prog : List PathToken) (n : ℕ) → ((j : ℕ) → j < suc n → misplacedAt prog j ≡ false) → WalksTree (take (suc n) prog)
-adequate-cut prog n m =
-    adequate (take (suc n) prog)
-    (λ j h. let l : j < suc n = omega (arith, rw length-take at h) in cut-placed prog [] 0 n j l ∙ m j l)
+pub parse : (prog : List PathToken) → ((j : ℕ) → misplacedAt prog j ≡ false) → (t : Cut) × TreeOf prog t
+parse prog m = let (t, h, e) = parse-from prog 0 [] empty [] tt tt m in (t, (h, e))

@@ -1,11 +1,12 @@
--- Document 01, "Ways, reads and writes": its sentences on branches once more, over programs as trees. `visited` must agree with them.
-use mathlib.Core.Bool.{cond, false}
+-- Document 01, "Ways, reads and writes": its sentences on branches once more, over programs as trees. Adequate says that Paths and Nesting
+-- agree with them.
+use mathlib.Core.Bool.{cond}
 use mathlib.Core.List.{List, [], _∷_}
+use mathlib.Core.Logic.{_⊎_}
+use mathlib.Core.Option.{Option, some}
 use mathlib.Core.Path.{_≡_}
-use Prim.Native.Nat.{ℕ, suc, _<_}
-use lib.ListN.{length}
-use Rattle.paths.specs.Paths.{plain, opener, els, eif, PathToken, Path, Visit, visitOf, visited}
-use Rattle.paths.specs.Nesting.{misplacedAt}
+use Prim.Native.Nat.{ℕ, suc, max}
+use Rattle.paths.specs.Paths.{plain, opener, els, eif, PathToken, Path, Visit, visitOf}
 
 -- "A branch is an opener, a block, perhaps els and a second block, then eif." What follows the token or the branch stands last.
 pub data Block : Type 0 where
@@ -21,30 +22,31 @@ pub data Cut : Type 0 where
   inSecond : Block → PathToken → Block → PathToken → Cut → Cut
 
 -- each token is what its place asks for
-abbrev pub Fits : Block → Type 0
-Fits empty = Unit {0}
-Fits (token t r) = (t .flow ≡ plain) × Fits r
-Fits (branch o b f r) = (o .flow ≡ opener) × Fits b × (f .flow ≡ eif) × Fits r
-Fits (branchEls o b e c f r) = (o .flow ≡ opener) × Fits b × (e .flow ≡ els) × Fits c × (f .flow ≡ eif) × Fits r
+abbrev pub BlockFits : Block → Type 0
+BlockFits empty = Unit {0}
+BlockFits (token t r) = (t .flow ≡ plain) × BlockFits r
+BlockFits (branch o b f r) = (o .flow ≡ opener) × BlockFits b × (f .flow ≡ eif) × BlockFits r
+BlockFits (branchEls o b e c f r) =
+    (o .flow ≡ opener) × BlockFits b × (e .flow ≡ els) × BlockFits c × (f .flow ≡ eif) × BlockFits r
 
 -- the same of a program cut short
 abbrev pub CutFits : Cut → Type 0
-CutFits (whole b) = Fits b
-CutFits (inFirst b o p) = Fits b × (o .flow ≡ opener) × CutFits p
-CutFits (inSecond b o c e p) = Fits b × (o .flow ≡ opener) × Fits c × (e .flow ≡ els) × CutFits p
+CutFits (whole b) = BlockFits b
+CutFits (inFirst b o p) = BlockFits b × (o .flow ≡ opener) × CutFits p
+CutFits (inSecond b o c e p) = BlockFits b × (o .flow ≡ opener) × BlockFits c × (e .flow ≡ els) × CutFits p
 
 -- the tokens of a block, and then these
-abbrev pub tokensOf : Block → List PathToken → List PathToken
-tokensOf empty rest = rest
-tokensOf (token t r) rest = t ∷ tokensOf r rest
-tokensOf (branch o b f r) rest = o ∷ tokensOf b (f ∷ tokensOf r rest)
-tokensOf (branchEls o b e c f r) rest = o ∷ tokensOf b (e ∷ tokensOf c (f ∷ tokensOf r rest))
+abbrev pub blockTokens : Block → List PathToken → List PathToken
+blockTokens empty rest = rest
+blockTokens (token t r) rest = t ∷ blockTokens r rest
+blockTokens (branch o b f r) rest = o ∷ blockTokens b (f ∷ blockTokens r rest)
+blockTokens (branchEls o b e c f r) rest = o ∷ blockTokens b (e ∷ blockTokens c (f ∷ blockTokens r rest))
 
 -- the tokens of a program cut short
 abbrev pub cutTokens : Cut → List PathToken
-cutTokens (whole b) = tokensOf b []
-cutTokens (inFirst b o p) = tokensOf b (o ∷ cutTokens p)
-cutTokens (inSecond b o c e p) = tokensOf b (o ∷ tokensOf c (e ∷ cutTokens p))
+cutTokens (whole b) = blockTokens b []
+cutTokens (inFirst b o p) = blockTokens b (o ∷ cutTokens p)
+cutTokens (inSecond b o c e p) = blockTokens b (o ∷ blockTokens c (e ∷ cutTokens p))
 
 -- the number of the token after a block that begins at n
 abbrev pub after : ℕ → Block → ℕ
@@ -79,10 +81,47 @@ cutWalk p n (inSecond b o c e q) =
     let k = after (suc m) c in
     walk p n b (visitOf m o ∷ cond (p m) (walk p (suc m) c []) (visitOf k e ∷ cutWalk p (suc k) q))
 
--- the program is a tree, perhaps cut short, and what each path visits is the walk over that tree
-abbrev pub WalksTree : List PathToken → Type 0
-WalksTree prog = (t : Cut) × CutFits t × (cutTokens t ≡ prog) × ((p : Path) → visited p prog ≡ cutWalk p 0 t)
+-- how many branches of a block are open at once
+abbrev pub blockDepth : Block → ℕ
+blockDepth empty = 0
+blockDepth (token t r) = blockDepth r
+blockDepth (branch o b f r) = max (suc (blockDepth b)) (blockDepth r)
+blockDepth (branchEls o b e c f r) = max (suc (max (blockDepth b) (blockDepth c))) (blockDepth r)
 
--- so it is of every program with no token out of place
-abbrev pub Adequate : List PathToken → Type 0
-Adequate prog = ((j : ℕ) → j < length prog → misplacedAt prog j ≡ false) → WalksTree prog
+-- the same of a program cut short
+abbrev pub cutDepth : Cut → ℕ
+cutDepth (whole b) = blockDepth b
+cutDepth (inFirst b o q) = max (blockDepth b) (suc (cutDepth q))
+cutDepth (inSecond b o c e q) = max (blockDepth b) (suc (max (blockDepth c) (cutDepth q)))
+
+-- in a block that begins at n, token i opens a branch, and the eif of that branch is token j
+abbrev pub HasBranch : ℕ → ℕ → ℕ → Block → Type 0
+HasBranch i j n empty = ⊥
+HasBranch i j n (token t r) = HasBranch i j (suc n) r
+HasBranch i j n (branch o b f r) =
+    let m = after (suc n) b in
+    ((i ≡ n) × (j ≡ m)) ⊎ HasBranch i j (suc n) b ⊎ HasBranch i j (suc m) r
+HasBranch i j n (branchEls o b e c f r) =
+    let m = after (suc n) b in
+    let k = after (suc m) c in
+    ((i ≡ n) × (j ≡ k)) ⊎ HasBranch i j (suc n) b ⊎ HasBranch i j (suc m) c ⊎ HasBranch i j (suc k) r
+
+-- the same of a program cut short, whose branches are not all cut short
+abbrev pub CutHasBranch : ℕ → ℕ → ℕ → Cut → Type 0
+CutHasBranch i j n (whole b) = HasBranch i j n b
+CutHasBranch i j n (inFirst b o q) = HasBranch i j n b ⊎ CutHasBranch i j (suc (after n b)) q
+CutHasBranch i j n (inSecond b o c e q) =
+    let m = after n b in
+    HasBranch i j n b ⊎ HasBranch i j (suc m) c ⊎ CutHasBranch i j (suc (after (suc m) c)) q
+
+-- token i opens a branch that is cut short
+abbrev pub LeavesOpen : ℕ → ℕ → Cut → Type 0
+LeavesOpen i n (whole b) = ⊥
+LeavesOpen i n (inFirst b o q) = (i ≡ after n b) ⊎ LeavesOpen i (suc (after n b)) q
+LeavesOpen i n (inSecond b o c e q) = (i ≡ after n b) ⊎ LeavesOpen i (suc (after (suc (after n b)) c)) q
+
+-- the innermost opener of a branch that is cut short, where any is; else this one
+abbrev pub innermostLeft : Option ℕ → ℕ → Cut → Option ℕ
+innermostLeft outer n (whole b) = outer
+innermostLeft outer n (inFirst b o q) = let m = after n b in innermostLeft (some m) (suc m) q
+innermostLeft outer n (inSecond b o c e q) = let m = after n b in innermostLeft (some m) (suc (after (suc m) c)) q
