@@ -1,124 +1,32 @@
 -- An access stands for exactly the components that document 01 says are read through the source.
 -- Assumes nothing.
-use Prim.Native.Nat.{ℕ, zero, suc, _*_, _/_, _%_, _^_, _<_}
-use mathlib.Core.Bool.{Bool, true, false, cond, _&&_, _||_, or-false}
-use mathlib.Core.List.{List, [], _∷_, map}
+use Prim.Native.Nat.{ℕ, zero, suc, _*_, _%_, _^_, _<_}
+use mathlib.Core.Bool.{Bool, true, false, cond, _&&_}
+use mathlib.Core.List.{List, [], _∷_}
 use mathlib.Core.Path.{_≡_, refl, sym, ap, _∙_}
-use native.Mathlib.Nat.{div-one}
 use native.Mathlib.Omega.{arith}
-use lib.Bits.{bitOr}
 use lib.Dec.{eqb}
 use borrow.Author.Tests.{eqb-true, eq-eqb}
-use Rattle.laws.specs.Tests.{every}
-use Rattle.laws.proofs.Every.{below, left}
-use Rattle.layout.specs.Opcodes.{isIn, kil, tex}
+use Rattle.laws.proofs.Every.{left}
+use Rattle.layout.specs.Opcodes.{rowCount2}
 use Rattle.layout.specs.Records.{isIndexed, directOf, indexedOf, sourceOf}
 use Rattle.layout.specs.declared.record.DirectSource.{DirectSource}
 use Rattle.layout.specs.declared.record.Operand.{Operand}
 use Rattle.layout.specs.declared.record.Operand.the-variants.{Unused as NoOperand, Direct, Indexed, Sampler as Sampled}
 use Rattle.layout.specs.declared.record.Token.{Token}
+use Rattle.layout.proofs.SelectionLaws.{named-components, selectors1-components, components2-components}
 use Rattle.layout.proofs.SourceKinds.{indexed-source, direct-source}
 use Rattle.paths.specs.Check.{lacks}
-use Rattle.components.specs.Reads.{keep, those, firstFew, bitOf, maskComponents, selector, named, m33, m34, m44}
-use Rattle.components.specs.Reads.{byThree1, byThree2, byFour1, byFour2, selectors1, selectors2, components2, rowCount2}
+use Rattle.layout.specs.Swizzles.{maskComponents, named}
+use Rattle.layout.specs.Selections.{selectors1, components2}
 use Rattle.components.specs.Reads.{rowsOf, readsThrough, maskOf, dimensionOf, reads1, reads2, temporaries}
-use Rattle.components.specs.Access.{Access, accessed, lacksAccess, lacksSome, mayLack, directAccess, indexAccess, namedSet, selectorSet1, selectorSet2, readSet2}
+use Rattle.layout.specs.Sets.{selectorSet1}
+use Rattle.components.specs.Access.{Access, accessed, lacksAccess, lacksSome, mayLack, directAccess, indexAccess}
 use Rattle.components.specs.Access.{accessThrough, components1Of, components2Of, access1Of, access2Of}
 use Rattle.components.specs.Written.{componentSet, lacksOf}
 use Rattle.components.specs.declared.written.Written.{Written}
-use Rattle.components.proofs.Bits.{same, same→eq, bit-or}
 use Rattle.components.proofs.Lacking.{lacks-nothing}
 use Rattle.components.proofs.Numbers.{temporaries-other-rows}
-
--- ---- the components that a swizzle names
-
-those-same : (f g : ℕ → Bool) → ((c : ℕ) → c < 4 → f c ≡ g c) → those f ≡ those g
-those-same f g h = rw (h 0 (omega arith), h 1 (omega arith), h 2 (omega arith), h 3 (omega arith))
-
-in-keep : (c : ℕ) (f : ℕ → ℕ) (b : Bool) (i : ℕ) (is : List ℕ)
-    → isIn c (map f (keep b i is)) ≡ ((b && eqb c (f i)) || isIn c (map f is))
-in-keep c f true i is = refl
-in-keep c f false i is = refl
-
--- one selector
-abbrev chooses : ℕ → ℕ → ℕ → Bool
-chooses b k c = same (bitOf (b * 2 ^ k) c) (eqb b 1 && eqb c k)
-
-chosen-bit : (b k c : ℕ) → b < 2 → k < 4 → c < 4 → bitOf (b * 2 ^ k) c ≡ (eqb b 1 && eqb c k)
-chosen-bit b k c hb hk hc =
-    same→eq _ _
-    (below (chooses b k) 4
-    (below (λ k. every (chooses b k) 4) 4
-    (below (λ b. every (λ k. every (chooses b k) 4) 4) 2 tt b hb) k hk) c hc)
-
-grouped : (p q r t : Bool) → ((p || q) || (r || t)) ≡ (p || (q || (r || (t || false))))
-grouped true q r t = refl
-grouped false true r t = refl
-grouped false false true t = refl
-grouped false false false t = sym (or-false t)
-
-named-bit : (z s c : ℕ) → c < 4 → bitOf (namedSet z s) c ≡ isIn c (map (selector z) (maskComponents s))
-unfolding namedSet
-named-bit z s c h =
-    let x = s % 2 * 2 ^ (z % 4) in
-    let y = s / 2 % 2 * 2 ^ (z / 4 % 4) in
-    let u = s / 4 % 2 * 2 ^ (z / 16 % 4) in
-    let w = s / 8 % 2 * 2 ^ (z / 64 % 4) in
-    rw (
-      in-keep,
-      in-keep,
-      in-keep,
-      in-keep,
-      div-one s,
-      div-one z,
-      bit-or (bitOr x y) (bitOr u w) c,
-      bit-or x y c,
-      bit-or u w c,
-      chosen-bit (s % 2) (z % 4) c (omega arith) (omega arith) h,
-      chosen-bit (s / 2 % 2) (z / 4 % 4) c (omega arith) (omega arith) h,
-      chosen-bit (s / 4 % 2) (z / 16 % 4) c (omega arith) (omega arith) h,
-      chosen-bit (s / 8 % 2) (z / 64 % 4) c (omega arith) (omega arith) h,
-    )
-    (grouped (eqb (s % 2) 1 && eqb c (z % 4)) (eqb (s / 2 % 2) 1 && eqb c (z / 4 % 4)) (eqb (s / 4 % 2) 1 && eqb c (z / 16 % 4))
-    (eqb (s / 8 % 2) 1 && eqb c (z / 64 % 4)))
-
-named-components : (z s : ℕ) → maskComponents (namedSet z s) ≡ named z (maskComponents s)
-named-components z s = those-same (bitOf (namedSet z s)) (λ c. isIn c (map (selector z) (maskComponents s))) (named-bit z s)
-
--- ---- the selectors of each opcode
-
-selectors1-components : (o m d : ℕ) → maskComponents (selectorSet1 o m d) ≡ selectors1 o m d
-unfolding selectorSet1 selectors1
-selectors1-components o m d = go (isIn o byThree1) (isIn o byFour1) (eqb o kil) (eqb o tex) (eqb d 0)
-  where
-    go : (p q r t u : Bool)
-        → maskComponents (cond p 7 (cond q 15 (cond r 1 (cond t (cond u 3 7) m))))
-        ≡ cond p (firstFew 3) (cond q (firstFew 4) (cond r (firstFew 1) (cond t (cond u (firstFew 2) (firstFew 3)) (maskComponents m))))
-    go true q r t u = refl
-    go false true r t u = refl
-    go false false true t u = refl
-    go false false false true true = refl
-    go false false false true false = refl
-    go false false false false u = refl
-
-selectors2-components : (o m : ℕ) → maskComponents (selectorSet2 o m) ≡ selectors2 o m
-unfolding selectorSet2 selectors2
-selectors2-components o m = go (isIn o byThree2) (isIn o byFour2)
-  where
-    go : (p q : Bool) → maskComponents (cond p 7 (cond q 15 m)) ≡ cond p (firstFew 3) (cond q (firstFew 4) (maskComponents m))
-    go true q = refl
-    go false true = refl
-    go false false = refl
-
-components2-components : (o m z : ℕ) → maskComponents (readSet2 o m z) ≡ components2 o m z
-unfolding readSet2 components2
-components2-components o m z = go (eqb o m33) (isIn o (m34 ∷ m44 ∷ []))
-  where
-    go : (p q : Bool) → maskComponents (cond p 7 (cond q 15 (namedSet z (selectorSet2 o m))))
-        ≡ cond p (firstFew 3) (cond q (firstFew 4) (named z (selectors2 o m)))
-    go true q = refl
-    go false true = refl
-    go false false = named-components z (selectorSet2 o m) ∙ ap (named z) (selectors2-components o m)
 
 -- ---- an operand
 

@@ -1,27 +1,16 @@
--- Bits of numbers: of two numbers joined, the lowest four of a number, and four that are shifted to a register's place.
+-- Bits of numbers: the lowest four of a number, and four that are shifted to a register's place.
 -- Assumes nothing.
-use Prim.Native.Nat.{ℕ, zero, suc, _*_, _/_, _%_, _^_, _<_}
-use mathlib.Core.Bool.{Bool, true, false, not, _&&_, _||_, and-true}
+use Prim.Native.Nat.{ℕ, _*_, _/_, _%_, _^_, _<_}
+use mathlib.Core.Bool.{Bool, true, false, not, _&&_, _||_, Bool·beq, and-true}
 use mathlib.Core.Path.{_≡_, refl, sym, ap, _∙_}
 use native.Mathlib.Omega.{arith}
-use lib.Bits.{bitAnd, bitOr, and-shr, or-shr, and-mod, or-mod, and-comm, and-mask, and-le-l}
-use lib.Dec.{T, eqb}
+use lib.Bits.{bitAnd, and-mod, and-comm, and-mask, and-le-l}
+use lib.Dec.{eqb}
 use borrow.Author.Tests.{eqb-true, eqb-false, eq-eqb, ne-eqb}
 use Rattle.laws.specs.Tests.{every}
-use Rattle.laws.proofs.Every.{below, is-true}
-use Rattle.components.specs.Reads.{bitOf}
-
--- two tests agree
-abbrev pub same : Bool → Bool → Bool
-same true b = b
-same false true = false
-same false false = true
-
-pub same→eq : (a b : Bool) → T (same a b) → a ≡ b
-same→eq true true t = refl
-same→eq true false t = absurd t
-same→eq false true t = absurd t
-same→eq false false t = refl
+use Rattle.laws.proofs.Every.{below, is-true, same→eq}
+use Rattle.layout.specs.Swizzles.{bitOf}
+use Rattle.layout.proofs.MaskBits.{bit-and}
 
 -- equal numbers on one side, equal numbers on the other
 pub eqb-iff : (a b c d : ℕ) → (a ≡ b → c ≡ d) → (c ≡ d → a ≡ b) → eqb a b ≡ eqb c d
@@ -30,30 +19,6 @@ eqb-iff a b c d f g = go (eqb c d) refl
     go : (t : Bool) → eqb c d ≡ t → eqb a b ≡ t
     go true e = eq-eqb a b (g (eqb-true c d e))
     go false e = ne-eqb a b (λ q. eqb-false c d e (f q))
-
--- ---- and, or
-
-and-one : (a b : ℕ) → a < 2 → b < 2 → eqb (bitAnd a b) 1 ≡ (eqb a 1 && eqb b 1)
-and-one zero b ha hb = refl
-and-one (suc zero) zero ha hb = refl
-and-one (suc zero) (suc zero) ha hb = refl
-and-one (suc zero) (suc (suc b)) ha hb = absurd (omega arith)
-and-one (suc (suc a)) b ha hb = absurd (omega arith)
-
-or-one : (a b : ℕ) → a < 2 → b < 2 → eqb (bitOr a b) 1 ≡ (eqb a 1 || eqb b 1)
-or-one zero b ha hb = refl
-or-one (suc zero) zero ha hb = refl
-or-one (suc zero) (suc zero) ha hb = refl
-or-one (suc zero) (suc (suc b)) ha hb = absurd (omega arith)
-or-one (suc (suc a)) b ha hb = absurd (omega arith)
-
-pub bit-and : (a b k : ℕ) → bitOf (bitAnd a b) k ≡ (bitOf a k && bitOf b k)
-bit-and a b k =
-    rw (and-shr a b k, and-mod (a / 2 ^ k) (b / 2 ^ k) 1) (and-one (a / 2 ^ k % 2) (b / 2 ^ k % 2) (omega arith) (omega arith))
-
-pub bit-or : (a b k : ℕ) → bitOf (bitOr a b) k ≡ (bitOf a k || bitOf b k)
-bit-or a b k =
-    rw (or-shr a b k, or-mod (a / 2 ^ k) (b / 2 ^ k) 1) (or-one (a / 2 ^ k % 2) (b / 2 ^ k % 2) (omega arith) (omega arith))
 
 -- ---- four bits
 
@@ -74,9 +39,9 @@ misses a b =
 
 misses-four : (a b : ℕ) → a < 16 → b < 16 → misses a b ≡ not (eqb (bitAnd a b) a)
 misses-four a b ha hb =
-    same→eq _ _
-    (below (λ b. same (misses a b) (not (eqb (bitAnd a b) a))) 16
-    (below (λ a. every (λ b. same (misses a b) (not (eqb (bitAnd a b) a))) 16) 16 tt a ha) b hb)
+    same→eq (misses a b) (not (eqb (bitAnd a b) a))
+    (below (λ b. Bool·beq (misses a b) (not (eqb (bitAnd a b) a))) 16
+    (below (λ a. every (λ b. Bool·beq (misses a b) (not (eqb (bitAnd a b) a))) 16) 16 tt a ha) b hb)
 
 pub misses-is : (m h : ℕ) → misses m h ≡ not (eqb (bitAnd (m % 16) h) (m % 16))
 misses-is m h =
@@ -106,11 +71,11 @@ misses-none m h e =
 
 -- four bits at the place of one of 16 registers
 abbrev placed : ℕ → ℕ → ℕ → Bool
-placed m r k = same (bitOf (m * 2 ^ (r * 4)) k) (eqb r (k / 4) && bitOf m (k % 4))
+placed m r k = Bool·beq (bitOf (m * 2 ^ (r * 4)) k) (eqb r (k / 4) && bitOf m (k % 4))
 
 pub bit-placed : (m r k : ℕ) → m < 16 → r < 16 → k < 64 → bitOf (m * 2 ^ (r * 4)) k ≡ (eqb r (k / 4) && bitOf m (k % 4))
 bit-placed m r k hm hr hk =
-    same→eq _ _
+    same→eq (bitOf (m * 2 ^ (r * 4)) k) (eqb r (k / 4) && bitOf m (k % 4))
     (below (placed m r) 64
     (below (λ r. every (placed m r) 64) 16
     (below (λ m. every (λ r. every (placed m r) 64) 16) 16 tt m hm) r hr) k hk)

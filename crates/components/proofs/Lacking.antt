@@ -7,7 +7,7 @@ use native.Mathlib.Numerals.{add-one}
 use native.Mathlib.Omega.{arith}
 use Rattle.laws.proofs.Every.{neither}
 use Rattle.paths.specs.Check.{lacks}
-use Rattle.components.specs.Reads.{maskComponents}
+use Rattle.layout.specs.Swizzles.{maskComponents}
 use Rattle.components.specs.Written.{halfOf, componentSet, lacksRow, lacksOf}
 use Rattle.components.specs.declared.written.Written.{Written}
 use Rattle.components.proofs.Bits.{misses-is, misses-none}

@@ -1,6 +1,5 @@
 pub mod AccessFields
 pub mod AccessLaws
-pub mod Among
 pub mod Bits
 pub mod Lacking
 pub mod Numbers

@@ -10,7 +10,8 @@ use lib.Pow.{shr-shr}
 use borrow.Author.Tests.{eqb-true, eqb-false, ne-eqb}
 use Rattle.paths.specs.Unwritten.{ComponentSet, has}
 use Rattle.paths.specs.Check.{lacks}
-use Rattle.components.specs.Reads.{Component, bitOf, keep, componentsOf, rowsOf, temporaries}
+use Rattle.layout.specs.Swizzles.{bitOf, keep}
+use Rattle.components.specs.Reads.{Component, registerComponents, rowsOf, temporaries}
 use Rattle.components.specs.Written.{halfOf, componentSet}
 use Rattle.components.specs.declared.written.Written.{Written}
 use Rattle.components.proofs.Bits.{eqb-iff}
@@ -20,21 +21,21 @@ abbrev pub numbers : ℕ → List ℕ → List ℕ
 numbers r cs = map (λ c. r * 4 + c) cs
 
 temporaries-append : (r : ℕ) (cs : List ℕ) (rest : List Component)
-    → temporaries (componentsOf 2 r cs ++ rest) ≡ numbers r cs ++ temporaries rest
+    → temporaries (registerComponents 2 r cs ++ rest) ≡ numbers r cs ++ temporaries rest
 temporaries-append r [] rest = refl
 temporaries-append r (c ∷ cs) rest = ap (λ l. (r * 4 + c) ∷ l) (temporaries-append r cs rest)
 
-pub temporaries-numbers : (r : ℕ) (cs : List ℕ) → temporaries (componentsOf 2 r cs) ≡ numbers r cs
+pub temporaries-numbers : (r : ℕ) (cs : List ℕ) → temporaries (registerComponents 2 r cs) ≡ numbers r cs
 temporaries-numbers r [] = refl
 temporaries-numbers r (c ∷ cs) = ap (λ l. (r * 4 + c) ∷ l) (temporaries-numbers r cs)
 
 -- components of a register that is no temporary are left out
-pub temporaries-other : (k r : ℕ) → eqb k 2 ≡ false → (cs : List ℕ) → temporaries (componentsOf k r cs) ≡ []
+pub temporaries-other : (k r : ℕ) → eqb k 2 ≡ false → (cs : List ℕ) → temporaries (registerComponents k r cs) ≡ []
 temporaries-other k r e [] = refl
 temporaries-other k r e (c ∷ cs) = rw e (temporaries-other k r e cs)
 
 skip-other : (k r : ℕ) → eqb k 2 ≡ false → (cs : List ℕ) (rest : List Component)
-    → temporaries (componentsOf k r cs ++ rest) ≡ temporaries rest
+    → temporaries (registerComponents k r cs ++ rest) ≡ temporaries rest
 skip-other k r e [] rest = refl
 skip-other k r e (c ∷ cs) rest = rw e (skip-other k r e cs rest)
 

@@ -10,8 +10,10 @@ use Rattle.layout.specs.declared.record.Operand.{Operand}
 use Rattle.layout.specs.declared.record.Operand.the-variants.{Unused as NoOperand, Direct, Indexed, Sampler as Sampled}
 use Rattle.layout.specs.declared.record.Token.{Token}
 use Rattle.paths.specs.Paths.{plain, opener, els, eif}
-use Rattle.components.specs.Reads.{Component, selectors1, selectors2, components2, rowCount2, reads1, reads2, writes, temporaries}
-use Rattle.components.specs.Tokens.{flowOf}
+use Rattle.layout.specs.Opcodes.{rowCount2, flowOf}
+use Rattle.layout.specs.Selections.{selectors1, selectors2, components2}
+use Rattle.components.specs.Reads.{Component, reads1, reads2, writes, temporaries}
+use Rattle.components.specs.Tokens.{pathFlow}
 
 -- a temporary register that is written, through a mask
 abbrev to : ℕ → ℕ → Destination
@@ -110,7 +112,7 @@ write-varying : writes attribute ≡ component 4 4 0 ∷ component 4 4 1 ∷ []
 write-varying = refl
 
 -- ddy, the four openers, els, eif, and a number that is no opcode
-flows : map flowOf (0x1b ∷ 0x1c ∷ 0x1d ∷ 0x1e ∷ 0x1f ∷ 0x20 ∷ 0x21 ∷ 0x22 ∷ [])
+flows : map (λ o. pathFlow (flowOf o)) (0x1b ∷ 0x1c ∷ 0x1d ∷ 0x1e ∷ 0x1f ∷ 0x20 ∷ 0x21 ∷ 0x22 ∷ [])
     ≡ plain ∷ opener ∷ opener ∷ opener ∷ opener ∷ els ∷ eif ∷ plain ∷ []
 unfolding flowOf
 flows = refl

@@ -12,10 +12,12 @@ use borrow.Author.Tests.{lt-ltb, le-ltb, lt-leb, le-leb, eqb-true, ne-eqb}
 use Rattle.layout.specs.declared.record.Destination.the-variants.{Masked}
 use Rattle.layout.specs.declared.record.MaskedRegister.{MaskedRegister}
 use Rattle.paths.specs.Unwritten.{has, adds}
-use Rattle.components.specs.Reads.{bitOf, maskComponents, componentsOf, writesInto, temporaries}
-use Rattle.components.specs.Written.{halfOf, componentSet, joinOf, marked, markOf}
+use Rattle.layout.specs.Swizzles.{bitOf, maskComponents}
+use Rattle.components.specs.Reads.{registerComponents, writesInto, temporaries}
+use Rattle.components.specs.Written.{halfOf, componentSet, joinOf, markedHalf, markOf}
 use Rattle.components.specs.declared.written.Written.{Written}
-use Rattle.components.proofs.Bits.{eqb-iff, bit-and, bit-or, bit-low, bit-placed}
+use Rattle.layout.proofs.MaskBits.{bit-and, bit-or}
+use Rattle.components.proofs.Bits.{eqb-iff, bit-low, bit-placed}
 use Rattle.components.proofs.Numbers.{numbers, temporaries-numbers, temporaries-other, has-keep, number-eqb}
 
 -- ---- join
@@ -74,7 +76,7 @@ has-mask r m n =
     )
     (the-bit (eqb r (n / 4)) (bitOf m) (n % 4) (omega arith))
 
-bit-marked : (g r m k : ℕ) → k < 64 → bitOf (marked g r m) k ≡ (bitOf g k || (eqb (r % 16) (k / 4) && bitOf m (k % 4)))
+bit-marked : (g r m k : ℕ) → k < 64 → bitOf (markedHalf g r m) k ≡ (bitOf g k || (eqb (r % 16) (k / 4) && bitOf m (k % 4)))
 bit-marked g r m k h =
     rw (
       bit-or g (m % 16 * 2 ^ (r % 16 * 4)) k,
@@ -84,7 +86,7 @@ bit-marked g r m k h =
 
 module _ (s : Written) (r m : ℕ) (h : r < 32) (n : ℕ) where
   -- the half that the register is in
-  same-half : (g : ℕ) → r / 16 ≡ n / 4 / 16 → bitOf (marked g r m) (n % 64) ≡ (bitOf g (n % 64) || (eqb r (n / 4) && bitOf m (n % 4)))
+  same-half : (g : ℕ) → r / 16 ≡ n / 4 / 16 → bitOf (markedHalf g r m) (n % 64) ≡ (bitOf g (n % 64) || (eqb r (n / 4) && bitOf m (n % 4)))
   same-half g e =
       let c : n % 64 % 4 ≡ n % 4 = omega arith in
       let q : n % 64 / 4 ≡ n / 4 % 16 = field n 4 2 in
@@ -117,10 +119,10 @@ module _ (s : Written) (r m : ℕ) (h : r < 32) (n : ℕ) where
             ])
       ]
 
-  pub in-mark : componentSet (markOf s r m) n ≡ adds (componentSet s) (temporaries (componentsOf 2 r (maskComponents m))) n
+  pub in-mark : componentSet (markOf s r m) n ≡ adds (componentSet s) (temporaries (registerComponents 2 r (maskComponents m))) n
   in-mark = rw (temporaries-numbers r (maskComponents m), has-mask r m n) halves-mark
 
--- a token's write: a temporary's components are marked, and those of other registers are not kept
+-- a token's write: a temporary's components are markedHalf, and those of other registers are not kept
 pub in-written : (s : Written) (d : MaskedRegister) → (d .kind ≡ 2 → d .number < 32) → (n : ℕ)
     → componentSet (cond (eqb (d .kind) 2) (markOf s (d .number) (d .mask)) s) n
     ≡ adds (componentSet s) (temporaries (writesInto (Masked d))) n
@@ -131,6 +133,6 @@ in-written s d h n = go (eqb (d .kind) 2) refl
     go true e =
         let k = eqb-true (d .kind) 2 e in
         in-mark s (d .number) (d .mask) (h k) n
-        ∙ ap (λ k. adds (componentSet s) (temporaries (componentsOf k (d .number) (maskComponents (d .mask)))) n) (sym k)
+        ∙ ap (λ k. adds (componentSet s) (temporaries (registerComponents k (d .number) (maskComponents (d .mask)))) n) (sym k)
     go false e =
         rw (temporaries-other (d .kind) (d .number) e (maskComponents (d .mask))) (sym (or-false (componentSet s n)))

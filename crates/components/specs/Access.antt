@@ -1,11 +1,11 @@
 -- Document 01, "Ways, reads and writes", as Reads states it, in the form that the code uses: a register, how many rows from it, and a set
 -- of components as a number. That each says what Reads says is proved, in AccessLaws.
-use Prim.Native.Nat.{ℕ, _*_, _/_, _%_, _^_}
+use Prim.Native.Nat.{ℕ, _*_, _%_, _^_}
 use mathlib.Core.Bool.{Bool, cond, _&&_, _||_}
-use mathlib.Core.List.{List, [], _∷_}
-use lib.Bits.{bitOr}
-use lib.Dec.{ltb, eqb}
-use Rattle.layout.specs.Opcodes.{isIn, kil, tex}
+use mathlib.Core.List.{List}
+use lib.Dec.{eqb}
+use Rattle.layout.specs.Opcodes.{rowCount2}
+use Rattle.layout.specs.Sets.{namedSet, coordinateSet, selectorSet1, selectorSet2, readSet2}
 use Rattle.layout.specs.Records.{registerOf, directOf, isIndexed, indexedOf, samplerOf}
 use Rattle.layout.specs.declared.fields.Fields.{Fields}
 use Rattle.layout.specs.declared.record.DirectSource.{DirectSource}
@@ -13,8 +13,8 @@ use Rattle.layout.specs.declared.record.IndexedSource.{IndexedSource}
 use Rattle.layout.specs.declared.record.Operand.{Operand}
 use Rattle.layout.specs.declared.record.Operand.the-variants.{Unused as NoOperand, Direct, Indexed, Sampler as Sampled}
 use Rattle.layout.specs.declared.record.Token.{Token}
-use Rattle.components.specs.Reads.{Component, bitOf, maskComponents, rowsOf, maskOf, dimensionOf, rowCount2}
-use Rattle.components.specs.Reads.{m33, m34, m44, byThree1, byThree2, byFour1, byFour2}
+use Rattle.layout.specs.Swizzles.{maskComponents}
+use Rattle.components.specs.Reads.{Component, rowsOf, maskOf, dimensionOf}
 use Rattle.components.specs.Written.{lacksOf}
 use Rattle.components.specs.declared.written.Written.{Written}
 
@@ -32,38 +32,6 @@ accessed a = rowsOf (a .kind) (a .register) (a .rows) (maskComponents (a .compon
 -- an access reads a temporary component that is not written
 abbrev pub lacksAccess : Written → Access → Bool
 lacksAccess s a = eqb (a .kind) 2 && lacksOf s (a .register) (a .rows) (a .components)
-
--- the set of components that a swizzle names by a set of selectors; bit i of either is component or selector i
-unfoldable pub namedSet : ℕ → ℕ → ℕ
-namedSet swizzle selectors =
-    bitOr
-    (bitOr (selectors % 2 * 2 ^ (swizzle % 4)) (selectors / 2 % 2 * 2 ^ (swizzle / 4 % 4)))
-    (bitOr (selectors / 4 % 2 * 2 ^ (swizzle / 16 % 4)) (selectors / 8 % 2 * 2 ^ (swizzle / 64 % 4)))
-
--- a set of opcodes, bit by bit, has an opcode
-abbrev pub amongOf : ℕ → ℕ → Bool
-amongOf set opcode = ltb opcode 64 && bitOf set opcode
-
--- "tex two for dimension 0, three for 1"
-abbrev pub coordinateSet : ℕ → ℕ
-coordinateSet dimension = cond (eqb dimension 0) 3 7
-
--- `selectors1` as a set
-unfoldable pub selectorSet1 : ℕ → ℕ → ℕ → ℕ
-selectorSet1 opcode mask dimension =
-    cond (isIn opcode byThree1) 7
-    (cond (isIn opcode byFour1) 15
-    (cond (eqb opcode kil) 1
-    (cond (eqb opcode tex) (coordinateSet dimension) mask)))
-
--- `selectors2` as a set
-unfoldable pub selectorSet2 : ℕ → ℕ → ℕ
-selectorSet2 opcode mask = cond (isIn opcode byThree2) 7 (cond (isIn opcode byFour2) 15 mask)
-
--- `components2` as a set
-unfoldable pub readSet2 : ℕ → ℕ → ℕ → ℕ
-readSet2 opcode mask swizzle =
-    cond (eqb opcode m33) 7 (cond (isIn opcode (m34 ∷ m44 ∷ [])) 15 (namedSet swizzle (selectorSet2 opcode mask)))
 
 -- nothing is read
 abbrev pub noAccess : Access

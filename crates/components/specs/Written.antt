@@ -6,7 +6,8 @@ use lib.Bits.{bitAnd, bitOr}
 use lib.Dec.{ltb, eqb}
 use Rattle.paths.specs.Unwritten.{ComponentSet}
 use Rattle.paths.specs.Check.{lacks}
-use Rattle.components.specs.Reads.{bitOf, maskComponents, rowsOf, temporaries}
+use Rattle.layout.specs.Swizzles.{bitOf, maskComponents}
+use Rattle.components.specs.Reads.{rowsOf, temporaries}
 use Rattle.components.specs.declared.written.Written.{Written}
 
 -- the number that a register's bits are in; a register above 31 has none
@@ -22,14 +23,14 @@ abbrev pub joinOf : Written → Written → Written
 joinOf a b = record { low = bitAnd (a .low) (b .low); high = bitAnd (a .high) (b .high) }
 
 -- the number that a register's bits are in, with those of a mask set
-abbrev pub marked : ℕ → ℕ → ℕ → ℕ
-marked half register mask = bitOr half (mask % 16 * 2 ^ (register % 16 * 4))
+abbrev pub markedHalf : ℕ → ℕ → ℕ → ℕ
+markedHalf half register mask = bitOr half (mask % 16 * 2 ^ (register % 16 * 4))
 
 -- "a token with a destination writes the components of its mask"; a register above 31 is not kept
 unfoldable pub markOf : Written → ℕ → ℕ → Written
 markOf s register mask =
-    cond (ltb register 16) (record { low = marked (s .low) register mask; high = s .high })
-    (cond (ltb register 32) (record { low = s .low; high = marked (s .high) register mask })
+    cond (ltb register 16) (record { low = markedHalf (s .low) register mask; high = s .high })
+    (cond (ltb register 32) (record { low = s .low; high = markedHalf (s .high) register mask })
     s)
 
 -- the bits of a mask are not all set among a register's, as the code tests it

@@ -1,14 +1,15 @@
 // Whether a token reads what is not written, from its fields and what its opcode holds.
 ghost use mathlib.Core.Path.{_≡_};
 ghost use Rattle.layout.specs.Records.{directOf, indexedOf, sourceOf, destinationOf, operandOf, tokenOf};
-ghost use Rattle.components.specs.Reads.{maskOf, dimensionOf, rowCount2};
+ghost use Rattle.layout.specs.Opcodes.{rowCount2};
+ghost use Rattle.components.specs.Reads.{maskOf, dimensionOf};
 ghost use Rattle.components.specs.Access.{lacksAccess, lacksSome, selectedAccess, directAccess, indexAccess, accessThrough, components1Of, components2Of, access1Of, access2Of};
-use crate::selection;
 use crate::written;
 use crate::written::Written;
 use layout::fields::Fields;
 use layout::opcodes::OperandShape;
 use layout::opcodes::Shape;
+use layout::selection;
 
 // Whether a token reads through source 1 a temporary component that is not written.
 pub fn reads_unwritten1(current: Written, shape: Shape, f: Fields) -> bool
@@ -41,7 +42,9 @@ fn direct_unwritten1(current: Written, shape: Shape, f: Fields) -> bool
     let mask = mask_of(shape.destination, f.destination);
     let shape2 = shape.source2;
     let selectors = selection::selectors1(f.opcode, mask, dimension_of(shape2, f.source2));
-    direct_lacks(current, f.source1, selectors)
+    let source = layout::unpack_direct(f.source1);
+    let components = selection::components_read(source.swizzle, selectors);
+    written::lacks(current, source.number, 1, components)
 }
 
 // The same of source 2.
@@ -104,7 +107,7 @@ pub(crate) fn index_unwritten(current: Written, field: u64) -> bool
     if source.index_kind != 2 {
         return false;
     }
-    let component = selection::chosen(1, source.component % 4);
+    let component = selection::chosen(1, source.component);
     written::lacks(current, source.number, 1, component)
 }
 

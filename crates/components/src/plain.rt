@@ -3,9 +3,9 @@
 ghost use mathlib.Core.Path.{_≡_};
 ghost use Rattle.components.specs.Access.{plainUnwritten, matrixUnwritten, texUnwritten, mayLack, indexedUnwritten};
 use crate::access;
-use crate::selection;
 use crate::written::Written;
 use layout::fields::Fields;
+use layout::selection;
 
 // For a token with a destination and direct sources of one register each. A source that is not used is 0, which names no temporary register,
 // and is asked as the other is.

@@ -11,7 +11,7 @@ use Rattle.layout.specs.declared.record.Operand.{Operand}
 use Rattle.layout.specs.declared.record.Operand.the-variants.{Unused as NoOperand, Direct, Indexed, Sampler as Sampled}
 use Rattle.layout.specs.declared.record.Token.{Token}
 use Rattle.paths.specs.Paths.{TokenFault}
-use Rattle.components.specs.Reads.{rowCount2}
+use Rattle.layout.specs.Opcodes.{rowCount2}
 use Rattle.faults.specs.Rules.{destinationWrong, maskWrong, indexedWrong, directWrong, samplerWrong}
 use Rattle.faults.specs.Profile.{countIn}
 use Rattle.faults.specs.Order.{Rule, firstFault, sourceRules}

@@ -8,7 +8,7 @@ use mathlib.Core.Path.{_≡_, refl, _∙_, sym, ap}
 use native.Mathlib.Omega.{arith}
 use lib.Dec.{eqb, ltb, lit≤}
 use lib.ListN.{length}
-use Rattle.layout.specs.Opcodes.{shapeOf}
+use Rattle.layout.specs.Opcodes.{shapeOf, rowCount2}
 use Rattle.bytecode.specs.Fields.{fieldsOf}
 use Rattle.layout.specs.Records.{tokenOf}
 use Rattle.bytecode.specs.Decode.{refusal, noRefusal, decodeOf, tokenFault, unusedPart, undefinedPart}
@@ -20,7 +20,6 @@ use Rattle.layout.specs.declared.record.Token.{Token}
 use Rattle.bytecode.proofs.DecodeLaws.{accepted, none-broken, was-refused}
 use Rattle.registers.specs.Counts.{countOf}
 use Rattle.paths.specs.Paths.{TokenFault}
-use Rattle.components.specs.Reads.{rowCount2}
 use Rattle.faults.specs.Rules.{opcodeTooNew, opcodeNotForStage, selectorsDiffer, matrixSwizzled}
 use Rattle.faults.specs.Profile.{profileOf, countIn}
 use Rattle.faults.specs.Order.{Rule, firstFault, sourceRules, recordRules, tokenRules, recordOf}

@@ -10,13 +10,12 @@ use Rattle.laws.proofs.Every.{below, left, right, either-right}
 use Rattle.bytecode.specs.Decode.{isClean}
 use Rattle.bytecode.proofs.DecodeLaws.{Clean, is-clean}
 use Rattle.layout.specs.Layout.{isStray}
-use Rattle.layout.specs.Opcodes.{rowOf, shapeOfRow, shapeOf, sourceShape}
+use Rattle.layout.specs.Opcodes.{rowOf, shapeOfRow, shapeOf, sourceShape, rowCount2}
 use Rattle.layout.specs.Records.{operandOf, tokenOf}
 use Rattle.layout.specs.declared.fields.Fields.{Fields}
 use Rattle.layout.specs.declared.opcodes.OperandShape.the-variants.{Unused, Source}
 use Rattle.layout.specs.declared.opcodes.Shape.{Shape}
-use Rattle.components.specs.Reads.{rowCount2}
-use Rattle.components.proofs.Among.{one-row}
+use Rattle.layout.proofs.OpcodeSets.{one-row}
 use Rattle.faults.specs.Rules.{opcodeTooNew, opcodeNotForStage}
 use Rattle.faults.specs.Profile.{profileOf, countIn}
 use Rattle.faults.specs.Order.{firstFault, sourceRules}

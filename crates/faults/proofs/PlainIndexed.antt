@@ -10,13 +10,13 @@ use borrow.Author.Tests.{not-false}
 use Rattle.laws.proofs.Every.{left, right, neither}
 use Rattle.layout.specs.Layout as layout
 use Rattle.layout.specs.Layout.{valueOf}
-use Rattle.layout.specs.Opcodes.{shapeOf}
+use Rattle.layout.specs.Opcodes.{shapeOf, rowCount2}
 use Rattle.layout.specs.Records.{registerOf, directOf, tokenOf}
 use Rattle.layout.specs.declared.fields.Fields.{Fields}
 use Rattle.layout.specs.declared.opcodes.OperandShape.the-variants.{Source}
-use Rattle.components.specs.Access.{mayLack, indexedUnwritten, readSet2}
+use Rattle.layout.specs.Sets.{readSet2}
+use Rattle.components.specs.Access.{mayLack, indexedUnwritten}
 use Rattle.components.specs.declared.written.Written.{Written}
-use Rattle.components.specs.Reads.{rowCount2}
 use Rattle.faults.specs.Faults.{swizzleWrong}
 use Rattle.faults.specs.Plain.{plainOpcodes, isSource, isPlainOpcode, isPlainDestination, isPlainEither, isPlainIndexed}
 use Rattle.faults.proofs.PlainOpcodes.{PlainOpcode, plain-opcode, matrix-opcode}

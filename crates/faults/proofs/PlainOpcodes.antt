@@ -9,12 +9,11 @@ use lib.Dec.{T, eqb, ltb, leb, eqb→eq, leb→le}
 use borrow.Author.Tests.{ne-eqb, le-leb, lt-leb, lt-ltb, le-ltb, eqb-true, eqb-false, not-true}
 use Rattle.laws.specs.Tests.{every}
 use Rattle.laws.proofs.Every.{below, either-right, is-true}
-use Rattle.layout.specs.Opcodes.{isIn, addedOpcodes, rowOf, shapeOfRow, shapeOf, holds}
+use Rattle.layout.specs.Opcodes.{isIn, addedOpcodes, rowOf, shapeOfRow, shapeOf, holds, rowCount2}
 use Rattle.layout.specs.declared.opcodes.OperandShape.{OperandShape}
 use Rattle.layout.specs.declared.opcodes.OperandShape.the-variants.{Unused, Source, Sampler}
 use Rattle.layout.specs.declared.opcodes.Shape.{Shape}
-use Rattle.components.specs.Reads.{rowCount2}
-use Rattle.components.proofs.Among.{one-row}
+use Rattle.layout.proofs.OpcodeSets.{one-row}
 use Rattle.faults.specs.Rules.{opcodeTooNew, opcodeNotForStage}
 use Rattle.faults.specs.Faults.{swizzleWrong}
 use Rattle.faults.specs.Plain.{plainOpcodes, isPlainOpcode}

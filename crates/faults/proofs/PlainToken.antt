@@ -11,18 +11,19 @@ use Rattle.bytecode.specs.Decode.{noRefusal, isClean}
 use Rattle.bytecode.proofs.DecodeLaws.{Clean, is-clean}
 use Rattle.layout.specs.Layout as layout
 use Rattle.layout.specs.Layout.{valueOf, isStray, operandBits}
-use Rattle.layout.specs.Opcodes.{tex, rowOf, shapeOfRow, shapeOf, holds}
+use Rattle.layout.specs.Opcodes.{tex, rowOf, shapeOfRow, shapeOf, holds, rowCount2}
 use Rattle.layout.specs.Records.{directOf, registerOf, sourceOf, operandOf, destinationOf, samplerOf, tokenOf}
 use Rattle.layout.specs.declared.fields.Fields.{Fields}
 use Rattle.layout.specs.declared.opcodes.OperandShape.{OperandShape}
 use Rattle.layout.specs.declared.opcodes.OperandShape.the-variants.{Source, Sampler}
 use Rattle.layout.specs.declared.record.Destination.the-variants.{Masked}
 use Rattle.layout.specs.declared.record.Token.{Token}
-use Rattle.components.specs.Access.{Access, lacksAccess, namedSet, selectorSet1, selectorSet2, readSet2, coordinateSet, lacksSome, selectedAccess, plainUnwritten, matrixUnwritten, texUnwritten, accessThrough, access1Of, access2Of}
+use Rattle.layout.specs.Sets.{namedSet, selectorSet1, selectorSet2, readSet2, coordinateSet}
+use Rattle.components.specs.Access.{Access, lacksAccess, lacksSome, selectedAccess, plainUnwritten, matrixUnwritten, texUnwritten, accessThrough, access1Of, access2Of}
 use Rattle.components.specs.declared.written.Written.{Written}
-use Rattle.components.specs.Reads.{dimensionOf, rowCount2}
+use Rattle.components.specs.Reads.{dimensionOf}
 use Rattle.components.proofs.AccessLaws.{none-missing}
-use Rattle.components.proofs.Among.{one-row, by-selectors}
+use Rattle.layout.proofs.OpcodeSets.{one-row, by-selectors}
 use Rattle.faults.specs.Rules.{opcodeTooNew, destinationWrong, maskWrong, opcodeNotForStage, samplerWrong}
 use Rattle.faults.specs.Profile.{profileOf, countIn}
 use Rattle.faults.specs.Order.{firstFault, sourceRules}

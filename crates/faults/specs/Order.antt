@@ -6,7 +6,7 @@ use mathlib.Core.List.{List, [], _∷_, _++_}
 use mathlib.Core.Option.{Option, none, some}
 use lib.Dec.{eqb}
 use lib.ListN.{take, drop}
-use Rattle.layout.specs.Opcodes.{shapeOf}
+use Rattle.layout.specs.Opcodes.{shapeOf, rowCount2}
 use Rattle.bytecode.specs.Fields.{fieldsOf}
 use Rattle.layout.specs.Records.{tokenOf}
 use Rattle.bytecode.specs.Decode.{unusedPart, undefinedPart}
@@ -15,7 +15,6 @@ use Rattle.layout.specs.declared.record.Operand.the-variants.{Unused as NoOpera
 use Rattle.layout.specs.declared.record.Token.{Token}
 use Rattle.registers.specs.Counts.{countOf}
 use Rattle.paths.specs.Paths.{TokenFault, PathToken}
-use Rattle.components.specs.Reads.{rowCount2}
 use Rattle.components.specs.Tokens.{pathTokenOf}
 use Rattle.faults.specs.Rules.{editionUnknown, headerMissing, firstByteWrong, versionWrong, typeIdWrong, stageOf, stageWrong, tokensNotWhole, tokenCount, tokensTooMany}
 use Rattle.faults.specs.Rules.{opcodeTooNew, opcodeNotForStage, destinationWrong, maskWrong, indexedWrong, directWrong, selectorsDiffer, matrixSwizzled, samplerWrong}

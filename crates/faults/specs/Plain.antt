@@ -5,13 +5,12 @@ use lib.Bits.{bitAnd}
 use lib.Dec.{eqb, ltb, leb}
 use Rattle.layout.specs.Layout as layout
 use Rattle.layout.specs.Layout.{valueOf, operandBits, isStray}
-use Rattle.layout.specs.Opcodes.{shapeOf, tex}
+use Rattle.layout.specs.Opcodes.{shapeOf, tex, rowCount2}
 use Rattle.layout.specs.Records.{isIndexed, destinationOf, samplerOf}
 use Rattle.layout.specs.declared.fields.Fields.{Fields}
 use Rattle.layout.specs.declared.opcodes.OperandShape.{OperandShape}
 use Rattle.layout.specs.declared.opcodes.OperandShape.the-variants.{Unused, Source, Sampler}
 use Rattle.faults.specs.Rules.{maskWrong, samplerWrong}
-use Rattle.components.specs.Reads.{rowCount2}
 use Rattle.faults.specs.Profile.{countIn}
 use Rattle.faults.specs.declared.plain.Usable.{Usable}
 use Rattle.faults.specs.declared.profile.Profile.{Profile}

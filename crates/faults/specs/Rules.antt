@@ -6,8 +6,8 @@ use mathlib.Core.List.{List}
 use lib.Dec.{eqb, ltb, leb}
 use lib.ListN.{length, getD}
 use Rattle.layout.specs.Layout.{wordAt}
-use Rattle.layout.specs.Opcodes.{isIn, kil, tex, addedOpcodes}
-use Rattle.layout.specs.Swizzles.{selector}
+use Rattle.layout.specs.Opcodes.{kil, isAdded, isFragmentOnly, isThreeWide, isMatrix}
+use Rattle.layout.specs.Swizzles.{bitOf, selectorsAgree}
 use Rattle.layout.specs.declared.record.Destination.{Destination}
 use Rattle.layout.specs.declared.record.Destination.the-variants.{Unused as NoDestination, Masked}
 use Rattle.layout.specs.declared.record.DirectSource.{DirectSource}
@@ -15,7 +15,6 @@ use Rattle.layout.specs.declared.record.IndexedSource.{IndexedSource}
 use Rattle.layout.specs.declared.record.Sampler.{Sampler}
 use Rattle.registers.specs.Uses.{isReadable, isWritable}
 use Rattle.registers.specs.Limits.{limitOf}
-use Rattle.components.specs.Reads.{bitOf, nrm, crs, m33, m34, m44}
 
 -- ---- the whole program: 1 to 8
 
@@ -67,15 +66,11 @@ tokensTooMany edition bytes = ltb (limitOf edition) (tokenCount bytes)
 
 -- 10: added opcode in edition 1
 abbrev pub opcodeTooNew : ℕ → ℕ → Bool
-opcodeTooNew edition opcode = eqb edition 1 && isIn opcode addedOpcodes
-
--- the opcodes that only fragment programs have
-abbrev pub isFragmentOpcode : ℕ → Bool
-isFragmentOpcode opcode = eqb opcode kil || eqb opcode tex
+opcodeTooNew edition opcode = eqb edition 1 && isAdded opcode
 
 -- 11: kil or tex in a vertex program
 abbrev pub opcodeNotForStage : ℕ → ℕ → Bool
-opcodeNotForStage stage opcode = eqb stage 0 && isFragmentOpcode opcode
+opcodeNotForStage stage opcode = eqb stage 0 && isFragmentOnly opcode
 
 -- What is in an edition and a stage: how many registers of each kind. Rules 14 to 19 take it as `count`.
 
@@ -83,10 +78,6 @@ opcodeNotForStage stage opcode = eqb stage 0 && isFragmentOpcode opcode
 abbrev pub destinationWrong : (ℕ → ℕ) → ℕ → Destination → Bool
 destinationWrong count stage NoDestination = false
 destinationWrong count stage (Masked r) = not (isWritable (r .kind) stage) || leb (count (r .kind)) (r .number)
-
--- the opcodes whose result has three components
-abbrev pub isThreeWide : ℕ → Bool
-isThreeWide opcode = eqb opcode nrm || eqb opcode crs || eqb opcode m33 || eqb opcode m34
 
 -- 15: mask 0; or w in the mask of nrm, crs, m33, m34
 abbrev pub maskWrong : ℕ → Destination → Bool
@@ -106,13 +97,11 @@ directWrong count stage rows s =
 
 -- 18, of source 1: kil's four selectors differ
 abbrev pub selectorsDiffer : ℕ → ℕ → Bool
-selectorsDiffer opcode swizzle =
-    eqb opcode kil
-    && not (eqb (selector swizzle 0) (selector swizzle 1) && eqb (selector swizzle 0) (selector swizzle 2) && eqb (selector swizzle 0) (selector swizzle 3))
+selectorsDiffer opcode swizzle = eqb opcode kil && not (selectorsAgree swizzle)
 
 -- 18, of source 2: matrix source 2 swizzle not E4
 abbrev pub matrixSwizzled : ℕ → ℕ → Bool
-matrixSwizzled opcode swizzle = (eqb opcode m33 || eqb opcode m44 || eqb opcode m34) && not (eqb swizzle 0xe4)
+matrixSwizzled opcode swizzle = isMatrix opcode && not (eqb swizzle 0xe4)
 
 -- 19: sampler: type not 5, number not below count, filter, wrap or dimension above 1, mipmap above 2, special not 0
 abbrev pub samplerWrong : (ℕ → ℕ) → Sampler → Bool

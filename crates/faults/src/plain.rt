@@ -4,11 +4,11 @@ ghost use mathlib.Core.Path.{_≡_};
 ghost use Rattle.faults.specs.Plain.{plainOpcodes, usableOf, countAt, isSource, isPlainOpcode, plainSourceBits, isPlainDestination, isPlainSource, isRightlyIndexed, isPlainEither, isPlain, isPlainMatrix, isPlainTex, isPlainIndexed, isPlainBranch};
 use crate::profile::Profile;
 use crate::rules;
-use components::selection;
 use layout::bits;
 use layout::fields::Fields;
 use layout::opcodes;
 use layout::opcodes::OperandShape;
+use layout::selection;
 
 // What a plain token may use in an edition and a stage: a set of opcodes, and how many registers of each kind a source, a destination and an
 // index may name. A count has eight bits, and is 0 for a kind that may not be named there.

@@ -2,28 +2,26 @@
 ghost use mathlib.Core.Path.{_≡_};
 ghost use Rattle.layout.specs.Records.{destinationOf};
 ghost use Rattle.faults.specs.Profile.{countIn};
-ghost use Rattle.faults.specs.Rules.{opcodeTooNew, opcodeNotForStage, isThreeWide, destinationWrong, maskWrong, indexedWrong, directWrong, selectorsDiffer, matrixSwizzled, samplerWrong};
+ghost use Rattle.faults.specs.Rules.{opcodeTooNew, opcodeNotForStage, destinationWrong, maskWrong, indexedWrong, directWrong, selectorsDiffer, matrixSwizzled, samplerWrong};
 use crate::profile;
 use crate::profile::Profile;
+use layout::opcodes;
 use layout::record::DirectSource;
 use layout::record::IndexedSource;
 use layout::record::Sampler;
-
-// nrm, 0e, crs, 11, m33, 17, and m34, 19, as a set.
-const THREE_WIDE: u64 = 0x0282_4000;
 
 // 10
 pub(crate) fn opcode_too_new(edition: u32, opcode: u32) -> bool
     ensures { λ r. ⌜ r ≡ opcodeTooNew edition opcode ⌝ }
 {
-    (edition == 1) & ((0x1a <= opcode) & (opcode < 0x22))
+    (edition == 1) & opcodes::is_added(opcode)
 }
 
 // 11
 pub(crate) fn opcode_not_for_stage(stage: u8, opcode: u32) -> bool
     ensures { λ r. ⌜ r ≡ opcodeNotForStage stage opcode ⌝ }
 {
-    (stage == 0) & ((opcode == 0x27) | (opcode == 0x28))
+    (stage == 0) & opcodes::is_fragment_only(opcode)
 }
 
 // 14
@@ -46,19 +44,9 @@ pub(crate) fn mask_wrong(opcode: u32, used: bool, field: u64) -> bool
 {
     if used {
         let r = layout::unpack_register(field);
-        return (r.mask == 0) | (is_three_wide(opcode) & (r.mask / 8 % 2 == 1));
+        return (r.mask == 0) | (opcodes::is_three_wide(opcode) & (r.mask / 8 % 2 == 1));
     }
     false
-}
-
-// nrm, crs, m33 and m34 have no fourth component.
-fn is_three_wide(opcode: u32) -> bool
-    ensures { λ r. ⌜ r ≡ isThreeWide opcode ⌝ }
-{
-    if 64 <= opcode {
-        return false;
-    }
-    (THREE_WIDE >> opcode) % 2 == 1
 }
 
 // 16
@@ -91,18 +79,17 @@ pub(crate) fn direct_wrong(profile: Profile, rows: u8, s: DirectSource) -> bool
 pub(crate) fn selectors_differ(opcode: u32, swizzle: u8) -> bool
     ensures { λ r. ⌜ r ≡ selectorsDiffer opcode swizzle ⌝ }
 {
-    let x = swizzle % 4;
-    let y = swizzle / 4 % 4;
-    let z = swizzle / 16 % 4;
-    let w = swizzle / 64 % 4;
-    (opcode == 0x27) & !((x == y) & (x == z) & (x == w))
+    if opcode != opcodes::KIL {
+        return false;
+    }
+    !layout::selectors_agree(swizzle)
 }
 
 // 18, of source 2
 pub(crate) fn matrix_swizzled(opcode: u32, swizzle: u8) -> bool
     ensures { λ r. ⌜ r ≡ matrixSwizzled opcode swizzle ⌝ }
 {
-    ((opcode == 0x17) | (opcode == 0x18) | (opcode == 0x19)) & (swizzle != 0xe4)
+    opcodes::is_matrix(opcode) & (swizzle != 0xe4)
 }
 
 // 19

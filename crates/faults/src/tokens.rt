@@ -10,10 +10,10 @@ ghost use Rattle.faults.specs.Faults.{numberOf, swizzleWrong, recordFaul
 use crate::profile::Profile;
 use crate::rules;
 use bytecode::answers::Refusal;
-use components::selection;
 use layout::fields::Fields;
 use layout::opcodes::OperandShape;
 use layout::opcodes::Shape;
+use layout::selection;
 
 // 10 and 11, then 14 to 19, of a record, from the fields that make it.
 pub fn own_fault(profile: Profile, token: usize, shape: Shape, f: Fields) -> Refusal
@@ -120,10 +120,6 @@ fn first_of(a: bool, x: u8, b: bool, y: u8) -> u8
 fn swizzle_wrong(second: bool, opcode: u32, swizzle: u8) -> bool
     ensures { λ r. ⌜ r ≡ swizzleWrong second opcode swizzle ⌝ }
 {
-    // kil and the matrices, which the rule names, are 17 or above; most tokens are below.
-    if opcode < 0x17 {
-        return false;
-    }
     if second {
         rules::matrix_swizzled(opcode, swizzle)
     } else {

@@ -11,10 +11,11 @@ use lib.Dec.{T, eqb, eqb→eq}
 use borrow.Author.Tests.{lt-ltb, le-ltb, ne-eqb}
 use Rattle.laws.specs.Tests.{every}
 use Rattle.laws.proofs.Every.{below, both-left, both-right, same→eq}
-use Rattle.layout.specs.Opcodes.{isIn, kil, tex, m33, m44, m34, rowCount2, unlisted, shapeOfRow, shapeOf, sourceShape, secondShape}
+use Rattle.layout.specs.Opcodes.{isIn, kil, tex, m33, m44, m34, ife, ine, ifg, ifl, els, eif, rowCount2, flowOf, unlisted, shapeOfRow, shapeOf, sourceShape, secondShape}
 use Rattle.layout.specs.Selections.{byThree1, byFour1}
-use Rattle.layout.specs.Sets.{amongOf, coordinateSet, selectorSet1}
+use Rattle.layout.specs.Sets.{amongOf, coordinateSet, namedSet, selectorSet1, selectorSet2, readSet2}
 use Rattle.layout.specs.Swizzles.{bitOf}
+use Rattle.layout.specs.declared.opcodes.Flow.the-variants.{Plain}
 use Rattle.layout.specs.declared.opcodes.OperandShape.{OperandShape}
 use Rattle.layout.specs.declared.opcodes.OperandShape.the-variants.{Unused, Source, Sampler}
 use Rattle.layout.specs.declared.opcodes.Shape.{Shape}
@@ -64,12 +65,18 @@ by-mask set o m d e h t = go (isIn o byThree1) (isIn o byFour1) (eqb o kil) (eqb
 
 -- ---- m33, m44 and m34 stand one after another
 
-pub one-row : (o : ℕ) → (m33 ≤ o → o ≤ m34 → ⊥) → rowCount2 o ≡ 1
-unfolding rowCount2
-one-row o outside = rw (other m33 (omega arith) (omega arith), other m34 (omega arith) (omega arith), other m44 (omega arith) (omega arith))
-  where
-    other : (k : ℕ) → m33 ≤ k → k ≤ m34 → eqb o k ≡ false
-    other k low high = ne-eqb o k (λ e. outside (omega arith) (omega arith))
+module _ (o : ℕ) (outside : (m33 ≤ o → o ≤ m34 → ⊥)) where
+  no-matrix : (k : ℕ) → m33 ≤ k → k ≤ m34 → eqb o k ≡ false
+  no-matrix k low high = ne-eqb o k (λ e. outside (omega arith) (omega arith))
+
+  pub one-row : rowCount2 o ≡ 1
+  unfolding rowCount2
+  one-row = rw (no-matrix m33 (omega arith) (omega arith), no-matrix m34 (omega arith) (omega arith), no-matrix m44 (omega arith) (omega arith))
+
+  pub by-selectors : (m z : ℕ) → readSet2 o m z ≡ namedSet z (selectorSet2 o m)
+  unfolding readSet2
+  by-selectors m z =
+      rw (no-matrix m33 (omega arith) (omega arith), no-matrix m34 (omega arith) (omega arith), no-matrix m44 (omega arith) (omega arith))
 
 pub three-rows : (o : ℕ) → m33 ≤ o → o ≤ m34 → (o ≡ m44 → ⊥) → rowCount2 o ≡ 3
 unfolding rowCount2
@@ -78,6 +85,23 @@ three-rows o low high h =
       | yes l ↦ let e : o ≡ m33 = omega arith in rw e
       | no l ↦ let e : o ≡ m34 = omega (arith, l, h) in rw e
     ]
+
+-- ---- the openers, els and eif stand one after another
+
+pub no-branch : (o : ℕ) → (ife ≤ o → o ≤ eif → ⊥) → flowOf o ≡ Plain
+unfolding flowOf
+no-branch o outside =
+    rw (
+      other ife (omega arith) (omega arith),
+      other ine (omega arith) (omega arith),
+      other ifg (omega arith) (omega arith),
+      other ifl (omega arith) (omega arith),
+      other els (omega arith) (omega arith),
+      other eif (omega arith) (omega arith),
+    )
+  where
+    other : (k : ℕ) → ife ≤ k → k ≤ eif → eqb o k ≡ false
+    other k low high = ne-eqb o k (λ e. outside (omega arith) (omega arith))
 
 -- ---- shapes, by numbers
 

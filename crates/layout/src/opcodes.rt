@@ -1,6 +1,6 @@
 // The opcodes, what a token of each holds, and what else a rule says of some of them. Every set of opcodes stands here and in `selection`.
 ghost use mathlib.Core.Path.{_≡_};
-ghost use Rattle.layout.specs.Opcodes.{shapeOf, sourceShape, secondShape, isAdded, isFragmentOnly, isThreeWide, isMatrix, rowCount2, flowOf};
+ghost use Rattle.layout.specs.Opcodes.{shapeOf, sourceShape, secondShape, isAdded, isFragmentOnly, isThreeWide, isMatrix, flowOf};
 ghost use Rattle.layout.specs.Sets.{amongOf};
 
 // What stands in the field of a source.
@@ -151,20 +151,4 @@ pub fn is_matrix(opcode: u32) -> bool
     ensures { λ r. ⌜ r ≡ isMatrix opcode ⌝ }
 {
     among(MATRICES, opcode)
-}
-
-// How many registers source 2 spans.
-pub fn rows2(opcode: u32) -> u8
-    ensures { λ r. ⌜ r ≡ rowCount2 opcode ⌝ }
-{
-    if opcode < M33 {
-        return 1;
-    }
-    if M34 < opcode {
-        return 1;
-    }
-    if opcode != M44 {
-        return 3;
-    }
-    4
 }

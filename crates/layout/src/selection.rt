@@ -1,6 +1,7 @@
-// What an opcode reads of its sources: the selectors that it uses, and the components of a row of source 2. A set of selectors or of
+// What an opcode reads of its sources: the selectors that it uses, the rows of source 2, and the components of each row. A set of selectors or of
 // components is four bits: bit 0 is the first selector, or x.
 ghost use mathlib.Core.Path.{_≡_};
+ghost use Rattle.layout.specs.Opcodes.{rowCount2};
 ghost use Rattle.layout.specs.Sets.{chosenSet, namedSet, coordinateSet, selectorSet1, selectorSet2, readSet2};
 use crate::opcodes;
 use crate::swizzles;
@@ -72,6 +73,22 @@ pub fn selectors2(opcode: u32, mask: u8) -> u8
         return ALL_FOUR;
     }
     mask
+}
+
+// How many registers source 2 spans.
+pub fn rows2(opcode: u32) -> u8
+    ensures { λ r. ⌜ r ≡ rowCount2 opcode ⌝ }
+{
+    if opcode < opcodes::M33 {
+        return 1;
+    }
+    if opcodes::M34 < opcode {
+        return 1;
+    }
+    if opcode != opcodes::M44 {
+        return 3;
+    }
+    4
 }
 
 // The components that are read of each row of source 2: of m33 x, y and z, of the other matrices all four, whatever the swizzle.

@@ -9,10 +9,12 @@ use native.Mathlib.Omega.{arith}
 use lib.Dec.{eqb, ltb, leb}
 use lib.ListN.{length}
 use borrow.Author.Tests.{ne-eqb, le-leb, ltb-false, leb-false, eqb-true, not-false}
-use Rattle.layout.specs.Opcodes.{shapeOf}
+use Rattle.layout.specs.Opcodes.{shapeOf, rowCount2}
 use Rattle.bytecode.specs.Fields.{fieldsOf}
 use Rattle.layout.specs.Records.{destinationOf, operandOf, tokenOf}
 use Rattle.bytecode.specs.Encode.{destinationFits, operandFits, isEncodable}
+use Rattle.layout.specs.declared.opcodes.Flow.{Flow}
+use Rattle.layout.specs.declared.opcodes.Flow.the-variants.{Plain, Opener, Els, Eif}
 use Rattle.layout.specs.declared.opcodes.OperandShape.{OperandShape}
 use Rattle.layout.specs.declared.opcodes.OperandShape.the-variants.{Unused as NoField, Source as SourceField, Sampler as SamplerField}
 use Rattle.layout.specs.declared.record.Destination.{Destination}
@@ -25,9 +27,8 @@ use Rattle.bytecode.proofs.SourceAgain.{source-fits}
 use Rattle.bytecode.proofs.SamplerAgain.{sampler-fits}
 use Rattle.registers.specs.Counts.{countOf}
 use Rattle.registers.specs.Uses.{isReadable, isWritable}
-use Rattle.paths.specs.Paths.{Flow, plain, opener, els, eif}
+use Rattle.components.specs.Tokens.{pathFlow}
 use Rattle.paths.specs.Nesting.{Branch, branchesAfter, misplaced, misplacedFrom}
-use Rattle.components.specs.Reads.{rowCount2}
 use Rattle.listing.specs.Line.{samplerHasNames, destinationHasNames, operandHasNames, isNameable}
 use Rattle.faults.specs.Rules.{destinationWrong, samplerWrong, selectorsDiffer, matrixSwizzled, stageOf, tokenCount}
 use Rattle.faults.specs.Order.{Rule, sourceRules, tokenRules, recordOf, tokenAt, tokensFrom}
@@ -176,14 +177,14 @@ module _ (count : ℕ → ℕ) (edition stage : ℕ) (s : List ℕ) (all : AllKe
 
 -- ---- the depth never passes 16
 
-depth-law : (f : Flow) (bs : List Branch) (n : ℕ) → misplaced f bs ≡ false → length bs ≤ 16
-    → (shownDepth f (length bs) ≤ 16) × (length (branchesAfter f n bs) ≡ openedAfter f (length bs)) × (length (branchesAfter f n bs) ≤ 16)
-depth-law plain bs n e h = (h, refl, h)
-depth-law opener bs n e h = (h, omega arith, omega (arith, leb-false 16 (length bs) e))
-depth-law els [] n e h = absurd (true≢false e)
-depth-law els (b ∷ bs) n e h = (omega (arith, h), refl, h)
-depth-law eif [] n e h = absurd (true≢false e)
-depth-law eif (b ∷ bs) n e h = (omega (arith, h), omega arith, omega (arith, h))
+depth-law : (f : Flow) (bs : List Branch) (n : ℕ) → misplaced (pathFlow f) bs ≡ false → length bs ≤ 16
+    → (shownDepth f (length bs) ≤ 16) × (length (branchesAfter (pathFlow f) n bs) ≡ openedAfter f (length bs)) × (length (branchesAfter (pathFlow f) n bs) ≤ 16)
+depth-law Plain bs n e h = (h, refl, h)
+depth-law Opener bs n e h = (h, omega arith, omega (arith, leb-false 16 (length bs) e))
+depth-law Els [] n e h = absurd (true≢false e)
+depth-law Els (b ∷ bs) n e h = (omega (arith, h), refl, h)
+depth-law Eif [] n e h = absurd (true≢false e)
+depth-law Eif (b ∷ bs) n e h = (omega (arith, h), omega arith, omega (arith, h))
 
 -- ---- an accepted program
 
@@ -209,7 +210,7 @@ module _ (edition : ℕ) (bytes : List ℕ) (p : Program) (e : verdict edition b
         whole-tokens edition bytes p e .decode n l′,
         token-named count edition (stageOf bytes) s (rules-kept edition bytes p e n l′) (shownDepth flow (length bs)) (stage-known edition bytes p e) shown,
         subst (Listable (stageOf bytes) bytes (n + 1) left) after
-            (listable left (n + 1) (branchesAfter flow m bs) (suc m) (omega (arith, l)) most (λ i k. placed (suc i) (omega (arith, k)))),
+            (listable left (n + 1) (branchesAfter (pathFlow flow) m bs) (suc m) (omega (arith, l)) most (λ i k. placed (suc i) (omega (arith, k)))),
       )
 
   pub lists : Listing bytes p

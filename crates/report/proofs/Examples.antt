@@ -4,13 +4,12 @@ use Prim.Native.Nat.{ℕ}
 use mathlib.Core.List.{List, [], _∷_, _++_}
 use mathlib.Core.Path.{_≡_, refl}
 use lib.ListN.{length, replicate}
-use Rattle.layout.specs.Opcodes.{rowOf, shapeOfRow}
+use Rattle.layout.specs.Opcodes.{flowOf, rowOf, shapeOfRow, rowCount2}
 use Rattle.layout.specs.Records.{signed, tokenOf}
 use Rattle.bytecode.specs.Decode.{unusedPart, undefinedPart}
 use Rattle.registers.specs.Counts.{countOf}
 use Rattle.registers.specs.Limits.{limitOf}
-use Rattle.components.specs.Reads.{selectors1, selectors2, components2, rowCount2}
-use Rattle.components.specs.Tokens.{flowOf}
+use Rattle.layout.specs.Selections.{selectors1, selectors2, components2}
 use Rattle.paths.specs.Check.{checkFrom}
 use Rattle.listing.specs.Text.{ascii}
 use Rattle.listing.specs.Decimal.{decimal}

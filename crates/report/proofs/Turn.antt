@@ -1,24 +1,21 @@
 -- One turn of a loop over the tokens, which writes or measures a line each time.
 -- Assumes nothing.
 use Prim.Native.Nat.{ℕ, suc, _+_, _-_, _*_, _≤_, _<_}
-use mathlib.Core.Bool.{Bool, true, false, cond, _&&_}
+use mathlib.Core.Bool.{true, _&&_}
 use mathlib.Core.List.{List, _++_, append-nil, append-assoc}
 use mathlib.Core.Path.{_≡_, refl, _∙_, sym, ap, ap₂, subst}
 use native.Mathlib.Omega.{arith}
-use lib.Dec.{leb, eqb}
+use lib.Dec.{leb}
 use lib.ListN.{length, take, length-append}
-use borrow.Author.Tests.{leb-true, lt-ltb, le-ltb, ne-eqb}
+use borrow.Author.Tests.{leb-true}
 use Rattle.bytecode.specs.Decode.{decodeOf}
 use Rattle.bytecode.specs.Encode.{isEncodable}
-use Rattle.layout.specs.Opcodes.{isIn, openers}
+use Rattle.layout.specs.Opcodes.{flowOf}
+use Rattle.layout.specs.declared.opcodes.Flow.{Flow}
+use Rattle.layout.specs.declared.opcodes.Flow.the-variants.{Plain, Opener, Els, Eif}
 use Rattle.bytecode.specs.declared.answers.Decoded.the-variants.{Token as Accepted}
 use Rattle.layout.specs.declared.record.Token.{Token}
 use Rattle.laws.proofs.Every.{left, right}
-use Rattle.paths.specs.Paths.{Flow, plain, opener, els, eif}
-use Rattle.components.specs.Tokens.{flowOf}
-use Rattle.verifier.specs.State.{flowOfCode}
-use Rattle.verifier.specs.declared.state.Flow.the-variants.{Els, Plain}
-use Rattle.verifier.proofs.Abstract.{flowIs, flow-is}
 use Rattle.listing.specs.Line.{lineOf, isNameable, destinationHasNames, operandHasNames}
 use Rattle.listing.specs.Writers.{Appends}
 use Rattle.faults.specs.Rules.{tokenCount}
@@ -39,10 +36,10 @@ depth-most t stage depth e =
 
 -- so at most 17 branches are open before it
 opened-most : (f : Flow) (opened : ℕ) → shownDepth f opened ≤ 16 → opened ≤ 17
-opened-most plain opened h = omega arith
-opened-most opener opened h = omega arith
-opened-most els opened h = omega arith
-opened-most eif opened h = omega arith
+opened-most Plain opened h = omega arith
+opened-most Opener opened h = omega arith
+opened-most Els opened h = omega arith
+opened-most Eif opened h = omega arith
 
 -- what is known before token n, where the lines so far take a text from one place to another
 pub record Walked (stage : ℕ) (bytes : List ℕ) (at place n opened : ℕ) : Type 0 where
@@ -145,45 +142,3 @@ module _ {stage : ℕ} {bytes : List ℕ} {at place n opened : ℕ} (w : Walked 
   at-end =
       let nothing = ap (λ j. length (linesFrom stage bytes n j opened)) none-left in
       (omega (arith, w .counted, nothing), omega (arith, w .most, w .inside))
-
--- ---- the depths by the opcode's number
-
-module _ (o opened : ℕ) where
-  pub els-shown : o ≡ 0x20 → opened - 1 ≡ shownDepth (flowOf o) opened
-  unfolding flowOf
-  els-shown e = sym (ap (λ k. shownDepth (flowOf k) opened) e)
-
-  pub eif-shown : o ≡ 0x21 → opened - 1 ≡ shownDepth (flowOf o) opened
-  unfolding flowOf
-  eif-shown e = sym (ap (λ k. shownDepth (flowOf k) opened) e)
-
-  pub other-shown : (o ≡ 0x20 → ⊥) → (o ≡ 0x21 → ⊥) → opened ≡ shownDepth (flowOf o) opened
-  unfolding flowOf
-  other-shown a b = rw (ne-eqb o 0x20 a, ne-eqb o 0x21 b) (go (isIn o openers))
-    where
-      go : (b : Bool) → opened ≡ shownDepth (cond b opener plain) opened
-      go true = refl
-      go false = refl
-
-  by-number : openedAfter (flowIs (flowOfCode o)) opened ≡ openedAfter (flowOf o) opened
-  by-number = ap (λ f. openedAfter f opened) (flow-is o)
-
-  pub below-after : o < 0x1c → opened ≡ openedAfter (flowOf o) opened
-  unfolding flowOfCode
-  below-after h = rw (← by-number, lt-ltb o 0x1c h)
-
-  pub opener-after : 0x1c ≤ o → o < 0x20 → opened + 1 ≡ openedAfter (flowOf o) opened
-  unfolding flowOfCode
-  opener-after h k = rw (← by-number, le-ltb o 0x1c h, lt-ltb o 0x20 k)
-
-  pub eif-after : o ≡ 0x21 → opened - 1 ≡ openedAfter (flowOf o) opened
-  unfolding flowOf
-  eif-after e = sym (ap (λ k. openedAfter (flowOf k) opened) e)
-
-  pub other-after : 0x20 ≤ o → (o ≡ 0x21 → ⊥) → opened ≡ openedAfter (flowOf o) opened
-  unfolding flowOfCode
-  other-after h b = rw (← by-number, le-ltb o 0x1c (omega arith), le-ltb o 0x20 h, ne-eqb o 0x21 b) (go (eqb o 0x20))
-    where
-      go : (b : Bool) → opened ≡ openedAfter (flowIs (cond b Els Plain)) opened
-      go true = refl
-      go false = refl

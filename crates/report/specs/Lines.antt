@@ -5,9 +5,9 @@ use mathlib.Core.List.{List, [], _++_}
 use mathlib.Core.Path.{_≡_}
 use Rattle.bytecode.specs.Decode.{decodeOf}
 use Rattle.bytecode.specs.declared.answers.Decoded.the-variants.{Token as Accepted}
+use Rattle.layout.specs.Opcodes.{flowOf}
+use Rattle.layout.specs.declared.opcodes.Flow.{Flow}
 use Rattle.layout.specs.declared.record.Token.{Token}
-use Rattle.paths.specs.Paths.{Flow}
-use Rattle.components.specs.Tokens.{flowOf}
 use Rattle.listing.specs.Line.{lineOf, isNameable}
 use Rattle.faults.specs.Order.{tokenAt, recordOf}
 use Rattle.report.specs.Depth.{shownDepth, openedAfter}

@@ -5,13 +5,15 @@ ghost use Prim.Native.Nat.{_-_, _*_, _≤_};
 ghost use lib.ListN.{length};
 ghost use Rattle.bytecode.specs.Decode.{decodeOf};
 ghost use Rattle.bytecode.specs.declared.answers.Decoded.the-variants.{Token as Accepted};
-ghost use Rattle.components.specs.Tokens.{flowOf};
+ghost use Rattle.layout.specs.Opcodes.{flowOf};
 ghost use Rattle.listing.specs.Line.{lineOf, isNameable};
 ghost use Rattle.faults.specs.Rules.{tokenCount};
 ghost use Rattle.faults.specs.Order.{tokenAt, recordOf};
 ghost use Rattle.report.specs.Depth.{shownDepth, openedAfter};
 ghost use Rattle.report.specs.Writers.{Listed, HasRoom, Puts, Measured, allLines};
 use bytecode::answers::Decoded;
+use layout::opcodes;
+use layout::opcodes::Flow;
 use layout::record::Destination;
 use layout::record::Operand;
 use layout::record::Token;
@@ -98,34 +100,31 @@ fn line_length(token: Token, stage: u8, depth: u8) -> usize
     put_line(&mut line, 0, token, stage, depth)
 }
 
-// Els, 20, and eif, 21, stand at the depth of their opener.
+// Els and eif stand at the depth of their opener.
 fn shown_depth(opcode: u32, opened: u8) -> u8
     ensures { λ r. ⌜ r ≡ shownDepth (flowOf opcode) opened ⌝ }
 {
-    if opcode == 0x20 {
-        return less(opened);
+    let flow = opcodes::flow_of(opcode);
+    match flow {
+        Flow::Plain => opened,
+        Flow::Opener => opened,
+        Flow::Els => less(opened),
+        Flow::Eif => less(opened),
     }
-    if opcode == 0x21 {
-        return less(opened);
-    }
-    opened
 }
 
-// How many branches are open after a token; 1c to 1f are openers.
+// How many branches are open after a token.
 fn opened_after(opcode: u32, opened: u8) -> u8
     requires { ⌜ opened ≤ 17 ⌝ }
     ensures { λ r. ⌜ r ≡ openedAfter (flowOf opcode) opened ⌝ }
 {
-    if opcode < 0x1c {
-        return opened;
+    let flow = opcodes::flow_of(opcode);
+    match flow {
+        Flow::Plain => opened,
+        Flow::Opener => opened + 1,
+        Flow::Els => opened,
+        Flow::Eif => less(opened),
     }
-    if opcode < 0x20 {
-        return opened + 1;
-    }
-    if opcode == 0x21 {
-        return less(opened);
-    }
-    opened
 }
 
 fn less(opened: u8) -> u8

@@ -1,27 +1,25 @@
 -- The state that the code keeps stands for the state of the check over paths, and a token makes of both the same.
 -- Assumes nothing.
 use Prim.Native.Nat.{ℕ, zero, suc, _≤_, _<_}
-use mathlib.Core.Bool.{true, false, cond, _||_}
+use mathlib.Core.Bool.{true, false, _||_}
 use mathlib.Core.List.{List}
-use mathlib.Core.Path.{_≡_, refl, _∙_, sym, ap, subst⁻¹}
-use native.Mathlib.Decide.{decLt}
+use mathlib.Core.Path.{_≡_, refl, _∙_, ap, subst⁻¹}
 use native.Mathlib.Omega.{arith}
-use lib.Dec.{eqb, ltb, eqb→eq}
+use lib.Dec.{ltb}
 use lib.ListN.{length, getD, set}
-use borrow.Author.Tests.{lt-ltb, le-ltb, ne-eqb}
-use Rattle.paths.specs.Paths.{Flow, plain, opener, els, eif}
+use borrow.Author.Tests.{lt-ltb, le-ltb}
+use Rattle.paths.specs.Paths.{Flow, opener, els, eif}
 use Rattle.paths.specs.Nesting as nesting
 use Rattle.paths.specs.Nesting.{misplaced}
 use Rattle.paths.specs.Unwritten.{ComponentSet}
-use Rattle.components.specs.Tokens.{flowOf}
+use Rattle.components.specs.Tokens.{pathFlow}
 use Rattle.components.specs.Written.{componentSet}
 use Rattle.paths.specs.Check as check
-use Rattle.verifier.specs.State.{flowOfCode, startState, blankBranch, slotOf, slotAfter, topOf, withTop, isMisplaced}
-use Rattle.verifier.specs.declared.state.Flow as code
-use Rattle.verifier.specs.declared.state.Flow.the-variants.{Plain, Opener, Els, Eif}
+use Rattle.verifier.specs.State.{startState, blankBranch, slotOf, slotAfter, topOf, withTop, isMisplaced}
+use Rattle.layout.specs.declared.opcodes.Flow as code
+use Rattle.layout.specs.declared.opcodes.Flow.the-variants.{Plain, Opener, Els, Eif}
 use Rattle.verifier.specs.declared.state.Branch.{Branch}
 use Rattle.verifier.specs.declared.state.State.{State}
-use Rattle.laws.proofs.Every.{below}
 use Rattle.verifier.proofs.Stack.{stackOf, stored-own, stack-length}
 
 -- ---- what each part stands for
@@ -41,12 +39,6 @@ keptIn st = stackOf keptOf blankBranch (st .branches) (st .depth)
 abbrev pub abstractOf : State → check.State
 abstractOf st = record { openBranches = branchesIn st; current = componentSet (st .current); kept = keptIn st }
 
-abbrev pub flowIs : code.Flow → Flow
-flowIs Plain = plain
-flowIs Opener = opener
-flowIs Els = els
-flowIs Eif = eif
-
 -- the array has room for 16 branches, and no more are open
 pub record Valid (st : State) : Type 0 where
   pub depth : st .depth ≤ 16
@@ -54,45 +46,6 @@ pub record Valid (st : State) : Type 0 where
 
 pub valid-start : Valid startState
 valid-start = record { depth = omega arith; room = refl }
-
--- ---- flow
-
-flowNumber : Flow → ℕ
-flowNumber plain = 0
-flowNumber opener = 1
-flowNumber els = 2
-flowNumber eif = 3
-
-flowFrom : ℕ → Flow
-flowFrom n = cond (eqb n 1) opener (cond (eqb n 2) els (cond (eqb n 3) eif plain))
-
-from-number : (f : Flow) → flowFrom (flowNumber f) ≡ f
-unfolding flowFrom flowNumber
-from-number plain = refl
-from-number opener = refl
-from-number els = refl
-from-number eif = refl
-
-pub flow-is : (o : ℕ) → flowIs (flowOfCode o) ≡ flowOf o
-unfolding flowOfCode flowOf flowNumber
-flow-is o =
-    elim (decLt o 0x22) [
-      | yes h ↦
-          sym (from-number (flowIs (flowOfCode o)))
-          ∙ ap flowFrom (eqb→eq (flowNumber (flowIs (flowOfCode o))) (flowNumber (flowOf o)) (below (λ o. eqb (flowNumber (flowIs (flowOfCode o))) (flowNumber (flowOf o))) 0x22 tt o h))
-          ∙ from-number (flowOf o)
-      | no g ↦
-          simp (
-            le-ltb o 0x1c (omega (arith, g)),
-            le-ltb o 0x20 (omega (arith, g)),
-            ne-eqb o 0x1c (λ e. omega (arith, g, e)),
-            ne-eqb o 0x1d (λ e. omega (arith, g, e)),
-            ne-eqb o 0x1e (λ e. omega (arith, g, e)),
-            ne-eqb o 0x1f (λ e. omega (arith, g, e)),
-            ne-eqb o 0x20 (λ e. omega (arith, g, e)),
-            ne-eqb o 0x21 (λ e. omega (arith, g, e)),
-          )
-    ]
 
 -- ---- the innermost branch
 
@@ -130,7 +83,7 @@ module _ (st : State) (v : Valid st) where
   pub outside : st .depth ≡ 0 → (ltb (st .depth) 1 || ltb 16 (st .depth)) ≡ true
   outside e = simp (lt-ltb (st .depth) 1 (omega (arith, e)))
 
-  pub misplaced-is : (f : code.Flow) → isMisplaced (topOf st) f ≡ misplaced (flowIs f) (branchesIn st)
+  pub misplaced-is : (f : code.Flow) → isMisplaced (topOf st) f ≡ misplaced (pathFlow f) (branchesIn st)
   misplaced-is Plain = refl
   misplaced-is Opener = rw (stack-length branchOf blankBranch (st .branches) (st .depth))
   misplaced-is Els = go (st .depth) refl

@@ -2,13 +2,12 @@
 -- Assumes nothing.
 use mathlib.Core.List.{List, map, List·Memᴰ, List·Memᴰ·head, List·Memᴰ·tail}
 use mathlib.Core.Path.{_≡_, refl, sym, ap, _∙_}
-use Rattle.layout.specs.Opcodes.{rowOf, shapeOfRow}
+use Rattle.layout.specs.Opcodes.{flowOf, rowOf, shapeOfRow, rowCount2}
 use Rattle.layout.specs.Records.{tokenOf}
 use Rattle.bytecode.specs.Decode.{unusedPart, undefinedPart}
 use Rattle.registers.specs.Counts.{countOf}
 use Rattle.registers.specs.Limits.{limitOf}
-use Rattle.components.specs.Reads.{selectors1, selectors2, components2, rowCount2}
-use Rattle.components.specs.Tokens.{flowOf}
+use Rattle.layout.specs.Selections.{selectors1, selectors2, components2}
 use Rattle.paths.specs.Check.{checkFrom}
 use Rattle.verifier.specs.Verdict.{verdict}
 use Rattle.verifier.specs.declared.answers.Checked.{Checked}

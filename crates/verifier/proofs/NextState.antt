@@ -14,18 +14,19 @@ use Rattle.paths.specs.Paths.{Flow}
 use Rattle.paths.specs.Nesting.{branchesAfter}
 use Rattle.paths.specs.Unwritten.{ComponentSet, adds}
 use Rattle.components.specs.Reads.{writesInto, temporaries}
+use Rattle.components.specs.Tokens.{pathFlow}
 use Rattle.components.specs.Written.{componentSet, joinOf}
 use Rattle.paths.specs.Check as check
 use Rattle.paths.specs.Check.{currentAt, keptAt, keptAfter}
 use Rattle.components.specs.declared.written.Written.{Written}
 use Rattle.components.proofs.WrittenLaws.{in-join, in-written}
 use Rattle.verifier.specs.State.{blankBranch, slotOf, slotAfter, topOf, withTop, isMisplaced, joined, metTop, opened, partedTop, writtenBy, wroteTop, withCurrent}
-use Rattle.verifier.specs.declared.state.Flow as code
-use Rattle.verifier.specs.declared.state.Flow.the-variants.{Plain, Opener, Els, Eif}
+use Rattle.layout.specs.declared.opcodes.Flow as code
+use Rattle.layout.specs.declared.opcodes.Flow.the-variants.{Plain, Opener, Els, Eif}
 use Rattle.verifier.specs.declared.state.Branch.{Branch}
 use Rattle.verifier.specs.declared.state.State.{State}
 use Rattle.verifier.specs.declared.state.Top.{Top}
-use Rattle.verifier.proofs.Abstract.{branchOf, keptOf, keptIn, abstractOf, flowIs, Valid, slot-of, slot-stays, own-top, inside, outside}
+use Rattle.verifier.proofs.Abstract.{branchOf, keptOf, keptIn, abstractOf, Valid, slot-of, slot-stays, own-top, inside, outside}
 use Rattle.verifier.proofs.Stack.{stored-own, over}
 
 -- ---- the write
@@ -56,8 +57,8 @@ stateAfter st f n w = withTop st (partedTop (withCurrent (metTop (topOf st) f) w
 
 -- what a token makes of a valid state
 pub record Follows (st : State) (f : code.Flow) (n : ℕ) : Type 0 where
-  pub before : componentSet (metTop (topOf st) f .current) ≡ currentAt (flowIs f) (componentSet (st .current)) (keptIn st)
-  pub after : (w : Written) → abstractOf (stateAfter st f n w) ≡ nextAbstract (abstractOf st) (flowIs f) n (componentSet w)
+  pub before : componentSet (metTop (topOf st) f .current) ≡ currentAt (pathFlow f) (componentSet (st .current)) (keptIn st)
+  pub after : (w : Written) → abstractOf (stateAfter st f n w) ≡ nextAbstract (abstractOf st) (pathFlow f) n (componentSet w)
   pub valid : (w : Written) → Valid (stateAfter st f n w)
 
 abbrev stateOf : Written → ℕ → List Branch → State

@@ -4,13 +4,12 @@ use Prim.Native.Nat.{ℕ}
 use mathlib.Core.Bool.{Bool, true, false, cond, false≢true}
 use mathlib.Core.Path.{_≡_, _∙_, sym, ap, ap₂}
 use native.Mathlib.Omega.{arith}
-use native.Mathlib.Decide.{decLt}
-use borrow.Author.Tests.{lt-ltb, le-ltb, ne-eqb}
 use Rattle.bytecode.specs.Decode.{refusal, noRefusal, isClean}
-use Rattle.layout.specs.Opcodes.{shapeOf}
+use Rattle.layout.specs.Opcodes.{flowOf, shapeOf}
 use Rattle.layout.specs.Records.{registerOf, tokenOf}
 use Rattle.layout.specs.declared.fields.Fields.{Fields}
 use Rattle.layout.specs.declared.record.Token.{Token}
+use Rattle.layout.proofs.OpcodeSets.{no-branch}
 use Rattle.components.specs.Access.{lacksAccess, access1Of, access2Of}
 use Rattle.components.specs.declared.written.Written.{Written}
 use Rattle.faults.specs.Faults.{ownFault}
@@ -18,41 +17,23 @@ use Rattle.faults.specs.Plain.{usableOf, isPlainBranch}
 use Rattle.faults.specs.Profile.{profileOf}
 use Rattle.faults.specs.declared.plain.Usable.{Usable}
 use Rattle.faults.specs.declared.profile.Profile.{Profile}
-use Rattle.faults.proofs.PlainOpcodes.{NoBranch}
 use Rattle.faults.proofs.PlainBranch.{plain-branch}
 use Rattle.faults.proofs.PlainToken.{PlainToken}
 use Rattle.verifier.specs.Pass.{passedUnless, Passes}
-use Rattle.verifier.specs.State.{flowOfCode, isMisplaced, metTop, partedTop, withCurrent, writtenBy, wroteTop}
+use Rattle.verifier.specs.State.{isMisplaced, metTop, partedTop, withCurrent, writtenBy, wroteTop}
 use Rattle.verifier.specs.Step.{stepped, faultOfFields, followOf, stepOf}
-use Rattle.verifier.specs.declared.state.Flow.the-variants.{Plain}
+use Rattle.layout.specs.declared.opcodes.Flow.the-variants.{Plain}
 use Rattle.verifier.specs.declared.plain.Passed.{Passed}
 use Rattle.verifier.specs.declared.state.Top.{Top}
 
 module _ (top : Top) (token : ℕ) where
   -- a token that no branch has to do with
-  follow-plain : (t : Token) → flowOfCode (t .opcode) ≡ Plain → lacksAccess (top .current) (access1Of t) ≡ false → lacksAccess (top .current) (access2Of t) ≡ false
+  follow-plain : (t : Token) → flowOf (t .opcode) ≡ Plain → lacksAccess (top .current) (access1Of t) ≡ false → lacksAccess (top .current) (access2Of t) ≡ false
       → followOf top token t ≡ stepped noRefusal (wroteTop top (t .destination))
   unfolding followOf
   follow-plain t e a b =
       ap (λ f. cond (isMisplaced top f) (stepped (refusal 20 token 0) top) (cond (lacksAccess (metTop top f .current) (access1Of t)) (stepped (refusal 21 token 2) top) (cond (lacksAccess (metTop top f .current) (access2Of t)) (stepped (refusal 21 token 3) top) (stepped noRefusal (partedTop (wroteTop (metTop top f) (t .destination)) f token))))) e
       ∙ rw (a, b)
-
-  no-branch : (o : ℕ) → NoBranch o → flowOfCode o ≡ Plain
-  unfolding flowOfCode
-  no-branch o h =
-      elim (decLt o 0x1c) [
-        | yes l ↦ rw (lt-ltb o 0x1c l)
-        | no g ↦ elim (decLt o 0x22) [
-          | yes l ↦ absurd (h (omega (arith, g)) l)
-          | no k ↦
-              rw (
-                le-ltb o 0x1c (omega (arith, g)),
-                le-ltb o 0x20 (omega (arith, k)),
-                ne-eqb o 0x20 (λ e. omega (arith, k, e)),
-                ne-eqb o 0x21 (λ e. omega (arith, k, e)),
-              )
-        ]
-      ]
 
   -- a token that decode takes and that has none of faults 10 to 19
   taken : (edition stage : ℕ) (f : Fields) → isClean (shapeOf (f .opcode)) f ≡ true → ownFault (profileOf edition stage) token (tokenOf (shapeOf (f .opcode)) f) ≡ noRefusal
@@ -65,7 +46,7 @@ module _ (top : Top) (token : ℕ) where
   unfolding tokenOf
   passes edition stage unwritten f p l =
       taken edition stage f (p .clean) (p .right token)
-      ∙ follow-plain (tokenOf (shapeOf (f .opcode)) f) (no-branch (f .opcode) (p .flow)) (p .written1 (top .current) l) (p .written2 (top .current) l)
+      ∙ follow-plain (tokenOf (shapeOf (f .opcode)) f) (no-branch (f .opcode) (λ low high. p .flow low (omega (arith, high)))) (p .written1 (top .current) l) (p .written2 (top .current) l)
       ∙ ap (λ d. stepped noRefusal (wroteTop top d)) (p .destination)
 
 -- what the code answers of a plain token

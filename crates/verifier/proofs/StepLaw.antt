@@ -10,6 +10,7 @@ use native.Mathlib.Omega.{arith}
 use lib.Dec.{eqb, leb, leb→le}
 use borrow.Author.Tests.{leb-false}
 use Rattle.bytecode.specs.Decode.{refusal, noRefusal}
+use Rattle.layout.specs.Opcodes.{flowOf}
 use Rattle.layout.specs.declared.record.Destination.{Destination}
 use Rattle.layout.specs.declared.record.Destination.the-variants.{Unused as NoDestination, Masked}
 use Rattle.layout.specs.declared.record.Token.{Token}
@@ -22,19 +23,19 @@ use Rattle.paths.specs.Paths.{PathToken}
 use Rattle.paths.specs.Nesting.{misplaced}
 use Rattle.paths.specs.Faults.{Answer, refused}
 use Rattle.components.specs.Reads.{reads1, reads2, writesInto, temporaries}
-use Rattle.components.specs.Tokens.{flowOf, pathTokenOf}
+use Rattle.components.specs.Tokens.{pathFlow, pathTokenOf}
 use Rattle.components.specs.Access.{lacksAccess, access1Of, access2Of}
 use Rattle.paths.specs.Unwritten.{adds}
 use Rattle.components.specs.Written.{componentSet}
 use Rattle.paths.specs.Check.{judge, lacks, setBefore, nextState, currentAt, checkFrom}
 use Rattle.components.proofs.AccessLaws.{lacks-reads1, lacks-reads2}
 use Rattle.faults.specs.Rules.{destinationWrong}
-use Rattle.verifier.specs.State.{flowOfCode, topOf, withTop, isMisplaced, metTop, partedTop}
+use Rattle.verifier.specs.State.{topOf, withTop, isMisplaced, metTop, partedTop}
 use Rattle.verifier.specs.Step.{stepped, nextOf, followOf}
-use Rattle.verifier.specs.declared.state.Flow as code
+use Rattle.layout.specs.declared.opcodes.Flow as code
 use Rattle.verifier.specs.declared.state.State.{State}
 use Rattle.verifier.specs.declared.step.Stepped.{Stepped}
-use Rattle.verifier.proofs.Abstract.{abstractOf, branchesIn, keptIn, flow-is, misplaced-is, Valid, valid-own}
+use Rattle.verifier.proofs.Abstract.{abstractOf, branchesIn, keptIn, misplaced-is, Valid, valid-own}
 use Rattle.verifier.proofs.NextState.{Kept, wrote-is, nextAbstract, follows}
 
 -- what a step means for the answer: its fault, or what the tokens that are left make of the next state
@@ -74,14 +75,14 @@ module _ (st : State) (v : Valid st) (n : ℕ) (t : Token) (rest : List PathToke
   pt = pathTokenOf none t
 
   abbrev f : code.Flow
-  f = flowOfCode (t .opcode)
+  f = flowOf (t .opcode)
 
-  misplaced-at : misplaced (flowOf (t .opcode)) (branchesIn st) ≡ isMisplaced (topOf st) f
-  misplaced-at = ap (λ g. misplaced g (branchesIn st)) (sym (flow-is (t .opcode))) ∙ sym (misplaced-is st v f)
+  misplaced-at : misplaced (pathFlow (flowOf (t .opcode))) (branchesIn st) ≡ isMisplaced (topOf st) f
+  misplaced-at = sym (misplaced-is st v f)
 
   module _ (m : isMisplaced (topOf st) f ≡ false) where
-    before-is : currentAt (flowOf (t .opcode)) (componentSet (st .current)) (keptIn st) ≡ componentSet (metTop (topOf st) f .current)
-    before-is = ap (λ g. currentAt g (componentSet (st .current)) (keptIn st)) (sym (flow-is (t .opcode))) ∙ sym (follows st n v f m .before)
+    before-is : currentAt (pathFlow (flowOf (t .opcode))) (componentSet (st .current)) (keptIn st) ≡ componentSet (metTop (topOf st) f .current)
+    before-is = sym (follows st n v f m .before)
 
     lacks1 : lacks (setBefore pt (abstractOf st)) (temporaries (reads1 t)) ≡ lacksAccess (metTop (topOf st) f .current) (access1Of t)
     lacks1 = ap (λ w. lacks w (temporaries (reads1 t))) before-is ∙ lacks-reads1 (metTop (topOf st) f .current) t
@@ -93,10 +94,9 @@ module _ (st : State) (v : Valid st) (n : ℕ) (t : Token) (rest : List PathToke
   next-is m k =
       let (w, e, c) = wrote-is (metTop (topOf st) f) (t .destination) k in
       let g = follows st n v f m in
-      let o = flowOf (t .opcode) in
+      let o = pathFlow (flowOf (t .opcode)) in
       let set : adds (currentAt o (componentSet (st .current)) (keptIn st)) (temporaries (writesInto (t .destination))) ≡ componentSet w = ap (λ b. adds b (temporaries (writesInto (t .destination)))) (before-is m) ∙ sym c in (
         ap (nextAbstract (abstractOf st) o n) set
-            ∙ ap (λ x. nextAbstract (abstractOf st) x n (componentSet w)) (sym (flow-is (t .opcode)))
             ∙ sym (g .after w)
             ∙ ap (λ x. abstractOf (withTop st (partedTop x f n))) (sym e),
         subst (λ x. Valid (withTop st (partedTop x f n))) (sym e) (g .valid w),
@@ -116,7 +116,7 @@ module _ (st : State) (v : Valid st) (n : ℕ) (t : Token) (rest : List PathToke
   followed k = go (isMisplaced (topOf st) f) refl
     where
       go : (m : Bool) → isMisplaced (topOf st) f ≡ m
-          → judge none (misplaced (flowOf (t .opcode)) (branchesIn st)) (lacks (setBefore pt (abstractOf st)) (temporaries (reads1 t))) (lacks (setBefore pt (abstractOf st)) (temporaries (reads2 t))) n (checkFrom (nextState (abstractOf st) n pt) (suc n) rest)
+          → judge none (misplaced (pathFlow (flowOf (t .opcode))) (branchesIn st)) (lacks (setBefore pt (abstractOf st)) (temporaries (reads1 t))) (lacks (setBefore pt (abstractOf st)) (temporaries (reads2 t))) n (checkFrom (nextState (abstractOf st) n pt) (suc n) rest)
           ≡ after st (cond (isMisplaced (topOf st) f) (stepped (refusal 20 n 0) (topOf st)) (cond (lacksAccess (metTop (topOf st) f .current) (access1Of t)) (stepped (refusal 21 n 2) (topOf st)) (cond (lacksAccess (metTop (topOf st) f .current) (access2Of t)) (stepped (refusal 21 n 3) (topOf st)) (stepped noRefusal (nextOf (topOf st) n t))))) n rest
       go true e = rw (misplaced-at ∙ e, e)
       go false e =

@@ -9,19 +9,11 @@ use Rattle.components.specs.declared.written.Written.{Written}
 use Rattle.layout.specs.declared.record.MaskedRegister.{MaskedRegister}
 use Rattle.layout.specs.declared.record.Destination.{Destination}
 use Rattle.layout.specs.declared.record.Destination.the-variants.{Unused as NoDestination, Masked}
-use Rattle.verifier.specs.declared.state.Flow.{Flow}
-use Rattle.verifier.specs.declared.state.Flow.the-variants.{Plain, Opener, Els, Eif}
+use Rattle.layout.specs.declared.opcodes.Flow.{Flow}
+use Rattle.layout.specs.declared.opcodes.Flow.the-variants.{Plain, Opener, Els, Eif}
 use Rattle.verifier.specs.declared.state.Branch.{Branch}
 use Rattle.verifier.specs.declared.state.State.{State}
 use Rattle.verifier.specs.declared.state.Top.{Top}
-
--- what an opcode does to branches
-unfoldable pub flowOfCode : ℕ → Flow
-flowOfCode opcode =
-    cond (ltb opcode 0x1c) Plain
-    (cond (ltb opcode 0x20) Opener
-    (cond (eqb opcode 0x20) Els
-    (cond (eqb opcode 0x21) Eif Plain)))
 
 abbrev pub noneWritten : Written
 noneWritten = record { low = 0; high = 0 }

@@ -3,18 +3,11 @@
 ghost use mathlib.Core.Path.{_≡_};
 ghost use Prim.Native.Nat.{_<_};
 ghost use Rattle.layout.specs.Records.{destinationOf};
-ghost use Rattle.verifier.specs.State.{flowOfCode, slotOf, slotAfter, isMisplaced, exchanged as exchangedTop, joined as joinedTop, metTop, opened as openedTop, partedTop, writtenBy, marked as markedTop, wroteTop};
+ghost use Rattle.verifier.specs.State.{slotOf, slotAfter, isMisplaced, exchanged as exchangedTop, joined as joinedTop, metTop, opened as openedTop, partedTop, writtenBy, marked as markedTop, wroteTop};
 use components::written;
 use components::written::Written;
+use layout::opcodes::Flow;
 use layout::record::MaskedRegister;
-
-// What a token does to branches.
-pub enum Flow {
-    Plain,
-    Opener,
-    Els,
-    Eif,
-}
 
 // An open branch: its opener's token number, whether its els was met, and the set kept for the path that does not come by here.
 pub struct Branch {
@@ -60,24 +53,6 @@ pub struct Top {
     pub current: Written,
     pub depth: usize,
     pub branch: Branch,
-}
-
-pub(crate) fn flow_of(opcode: u32) -> Flow
-    ensures { λ r. ⌜ r ≡ flowOfCode opcode ⌝ }
-{
-    if opcode < 0x1c {
-        return Flow::Plain;
-    }
-    if opcode < 0x20 {
-        return Flow::Opener;
-    }
-    if opcode == 0x20 {
-        return Flow::Els;
-    }
-    if opcode == 0x21 {
-        return Flow::Eif;
-    }
-    Flow::Plain
 }
 
 // Where the innermost of so many open branches stands in the array. Every number has a place, and the state that has no open branch keeps

@@ -5,7 +5,6 @@ ghost use Rattle.layout.specs.Records.{tokenOf};
 ghost use Rattle.faults.specs.Plain.{usableOf};
 ghost use Rattle.faults.specs.Profile.{profileOf};
 ghost use Rattle.verifier.specs.Step.{faultOfFields, followOf, stepOf};
-use crate::state;
 use crate::state::Top;
 use bytecode::answers::Refusal;
 use components::access;
@@ -40,7 +39,7 @@ impl Top {
     fn follow(self, token: usize, shape: Shape, f: Fields) -> Stepped
         ensures { λ r. ⌜ r ≡ followOf self token (tokenOf shape f) ⌝ }
     {
-        let flow = state::flow_of(f.opcode);
+        let flow = opcodes::flow_of(f.opcode);
         if self.is_misplaced(flow) {
             let fault = faults::refusal(20, token, 0);
             return Stepped { fault, top: self };

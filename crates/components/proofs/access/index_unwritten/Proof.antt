@@ -26,10 +26,10 @@ lacks-requires c κs = search needs
 
 returns-2 : tie.Need-returns-2
 returns-2 c =
-    let current = c .before .before .before .before .before .before .args .current in
-    let source = c .before .before .before .before .before .unpack-indexed in
+    let current = c .before .before .before .before .before .args .current in
+    let source = c .before .before .before .before .unpack-indexed in
     let temporary : c .lacks .result ≡ lacksAccess current (indexAccess (source .result)) =
-    simp (eq-eqb _ _ (c .before .before .before .if1 .left), c .before .chosen .ensures, c .lacks .ensures) in
+    simp (eq-eqb _ _ (c .before .before .if1 .left), c .before .chosen .ensures, c .lacks .ensures) in
     temporary ∙ ap (λ s. lacksAccess current (indexAccess s)) (source .ensures)
 
 pub index-unwritten-spec : {M : Type 1} → statement M

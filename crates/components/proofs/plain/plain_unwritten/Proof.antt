@@ -5,7 +5,8 @@ use mathlib.Core.Path.{_∙_, sym}
 use borrow.Author.Tests.{not-true}
 use Rattle.laws.proofs.Every.{neither}
 use Rattle.layout.specs.Records.{directOf, registerOf}
-use Rattle.components.specs.Access.{namedSet, selectorSet1, selectorSet2, plainUnwritten}
+use Rattle.layout.specs.Sets.{namedSet, selectorSet1, selectorSet2}
+use Rattle.components.specs.Access.{plainUnwritten}
 use Rattle.components.proofs.AccessLaws.{none-missing}
 use borrow.Author.Needs.{needs}
 use Rattle.components.proofs.plain.plain_unwritten.Statement.{statement}

@@ -2,10 +2,10 @@
 -- Assumes nothing.
 use mathlib.Core.Path.{sym}
 use native.Mathlib.Omega.{arith}
-use Rattle.components.specs.Reads.{rowCount2}
-use Rattle.components.proofs.Among.{one-row, three-rows}
-use Rattle.components.proofs.selection.rows2.Statement.{statement}
-use Rattle.components.proofs.selection.rows2.Tie as tie
+use Rattle.layout.specs.Opcodes.{rowCount2}
+use Rattle.layout.proofs.OpcodeSets.{one-row, three-rows}
+use Rattle.layout.proofs.selection.rows2.Statement.{statement}
+use Rattle.layout.proofs.selection.rows2.Tie as tie
 
 returns : tie.Need-returns
 returns c = sym (one-row _ (λ low high. omega arith))
