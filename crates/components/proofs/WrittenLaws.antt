@@ -122,17 +122,32 @@ module _ (s : Written) (r m : ℕ) (h : r < 32) (n : ℕ) where
   pub in-mark : componentSet (markOf s r m) n ≡ adds (componentSet s) (temporaries (registerComponents 2 r (maskComponents m))) n
   in-mark = rw (temporaries-numbers r (maskComponents m), has-mask r m n) halves-mark
 
--- a token's write: a temporary's components are markedHalf, and those of other registers are not kept
+-- a mask without components marks nothing
+none-marked : (s : Written) (r : ℕ) → markOf s r 0 ≡ s
+unfolding markOf
+none-marked s r = go (ltb r 16) (ltb r 32)
+  where
+    nothing-more : (half : ℕ) → markedHalf half r 0 ≡ half
+    nothing-more half =
+        let none : 0 % 16 * 2 ^ (r % 16 * 4) ≡ 0 = omega arith in
+        ap (bitOr half) none ∙ or-zero-r half
+
+    go : (a b : Bool) → cond a (record { low = markedHalf (s .low) r 0; high = s .high }) (cond b (record { low = s .low; high = markedHalf (s .high) r 0 }) s) ≡ s
+    go true b = ap (λ half. record { low = half; high = s .high }) (nothing-more (s .low))
+    go false true = ap (λ half. record { low = s .low; high = half }) (nothing-more (s .high))
+    go false false = refl
+
+-- a token's write: a temporary's components are marked, and those of other registers are not kept
 pub in-written : (s : Written) (d : MaskedRegister) → (d .kind ≡ 2 → d .number < 32) → (n : ℕ)
-    → componentSet (cond (eqb (d .kind) 2) (markOf s (d .number) (d .mask)) s) n
+    → componentSet (markOf s (d .number) (cond (eqb (d .kind) 2) (d .mask) 0)) n
     ≡ adds (componentSet s) (temporaries (writesInto (Masked d))) n
 in-written s d h n = go (eqb (d .kind) 2) refl
   where
     go : (b : Bool) → eqb (d .kind) 2 ≡ b
-        → componentSet (cond b (markOf s (d .number) (d .mask)) s) n ≡ adds (componentSet s) (temporaries (writesInto (Masked d))) n
+        → componentSet (markOf s (d .number) (cond b (d .mask) 0)) n ≡ adds (componentSet s) (temporaries (writesInto (Masked d))) n
     go true e =
         let k = eqb-true (d .kind) 2 e in
         in-mark s (d .number) (d .mask) (h k) n
         ∙ ap (λ k. adds (componentSet s) (temporaries (registerComponents k (d .number) (maskComponents (d .mask)))) n) (sym k)
     go false e =
-        rw (temporaries-other (d .kind) (d .number) e (maskComponents (d .mask))) (sym (or-false (componentSet s n)))
+        rw (none-marked s (d .number), temporaries-other (d .kind) (d .number) e (maskComponents (d .mask))) (sym (or-false (componentSet s n)))

@@ -99,3 +99,7 @@ mayLack s rows field = cond (isIndexed field) (lacksAccess s (indexAccess (index
 -- and through two such sources
 unfoldable pub indexedUnwritten : Written → Fields → Bool
 indexedUnwritten s f = mayLack s 1 (f .source1) || mayLack s (rowCount2 (f .opcode)) (f .source2)
+
+-- and through the two direct sources of an opener, by all four selectors
+unfoldable pub openerUnwritten : Written → Fields → Bool
+openerUnwritten s f = lacksAccess s (selectedAccess 15 (directOf (f .source1))) || lacksAccess s (selectedAccess 15 (directOf (f .source2)))

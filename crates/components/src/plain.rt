@@ -1,7 +1,7 @@
 // Quick tests for tokens that have none of faults 9 to 19: whether such a token reads what is not written. Each says yes of every token that
 // does. Those of matrices and indexed sources ask for all four components, and so may say yes of one that does not.
 ghost use mathlib.Core.Path.{_≡_};
-ghost use Rattle.components.specs.Access.{plainUnwritten, matrixUnwritten, texUnwritten, mayLack, indexedUnwritten};
+ghost use Rattle.components.specs.Access.{plainUnwritten, matrixUnwritten, texUnwritten, mayLack, indexedUnwritten, openerUnwritten};
 use crate::access;
 use crate::written::Written;
 use layout::fields::Fields;
@@ -55,4 +55,12 @@ fn may_lack(current: Written, rows: u8, field: u64) -> bool
         return access::index_unwritten(current, field);
     }
     access::lacks_some(current, rows, field)
+}
+
+// The same of an opener with two direct sources, each of which is read by all four selectors.
+pub fn opener_unwritten(current: Written, f: Fields) -> bool
+    ensures { λ r. ⌜ r ≡ openerUnwritten current f ⌝ }
+{
+    access::direct_lacks(current, f.source1, selection::ALL_FOUR)
+        | access::direct_lacks(current, f.source2, selection::ALL_FOUR)
 }
