@@ -7,15 +7,17 @@ use mathlib.Core.Option.{Option, none, some, Option·none-ne-some}
 use mathlib.Core.Path.{_≡_, refl, sym}
 use native.Mathlib.Omega.{arith}
 use native.Mathlib.Decide.{decLt}
-use lib.Dec.{lit≤}
+use lib.Dec.{eqb, lit≤}
 use lib.ListN.{length}
-use borrow.Author.Tests.{lt-ltb}
+use borrow.Author.Tests.{lt-ltb, ltb-false}
 use Rattle.paths.specs.Paths.{TokenFault}
 use Rattle.paths.specs.Check.{verdictOf}
-use Rattle.faults.specs.Rules.{editionUnknown}
+use Rattle.registers.specs.Limits.{limitOf}
+use Rattle.faults.specs.Rules.{editionUnknown, tokenCount}
 use Rattle.faults.specs.Order.{Rule, firstFault, headerRules, tokensOf}
 use Rattle.faults.specs.Faults.{refusalAt}
 use Rattle.faults.specs.Header.{headerFault}
+use Rattle.faults.proofs.FaultLaws.{none-broken}
 use Rattle.verifier.specs.Verdict.{answerOf, afterHeader, verdict}
 use Rattle.verifier.specs.declared.answers.Checked.{Checked}
 use Rattle.verifier.specs.declared.answers.Checked.the-variants.{Refused}
@@ -83,3 +85,17 @@ module _ (edition : ℕ) (bytes : List ℕ) where
       go : (b : Bool) (f g : TokenFault) → cond b (some f) (some g) ≡ none → ⊥
       go true f g e = Option·none-ne-some f (sym e)
       go false f g e = Option·none-ne-some g (sym e)
+
+  -- fault 8 is absent, so the tokens can be counted in 16 bits
+  pub few-tokens : first ≡ none → tokenCount bytes < 65536
+  unfolding limitOf
+  few-tokens e =
+      let most = ltb-false (limitOf edition) (tokenCount bytes) (none-broken (headerRules edition bytes) e .1 .1 .1 .1 .1 .1 .1 .0) in
+      let few = at-most (eqb edition 1) (eqb edition 2) (eqb edition 3) in
+      omega (arith, most, few)
+    where
+      at-most : (a b c : Bool) → cond a 200 (cond b 1024 (cond c 2048 0)) ≤ 2048
+      at-most true b c = omega arith
+      at-most false true c = omega arith
+      at-most false false true = omega arith
+      at-most false false false = omega arith

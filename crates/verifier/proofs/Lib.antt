@@ -2,10 +2,10 @@ pub mod Abstract
 pub mod AcceptedTokens
 pub mod BenchCases
 pub mod ExactCheck
+pub mod GlanceLaw
 pub mod HeaderLaw
-pub mod LoopLaw
 pub mod NextState
-pub mod PassLaw
-pub mod Stack
 pub mod StepLaw
+pub mod StepsLaw
 pub mod TokenLaw
+pub mod TurnLaw

@@ -8,9 +8,12 @@ use mathlib.Core.Path.{_≡_, refl, _∙_, sym, ap, subst}
 use native.Mathlib.Decide.{decLt}
 use native.Mathlib.Omega.{arith}
 use lib.Dec.{eqb, leb, leb→le}
-use borrow.Author.Tests.{leb-false}
-use Rattle.bytecode.specs.Decode.{refusal, noRefusal}
+use borrow.Author.Tests.{leb-false, eq-eqb}
+use Rattle.bytecode.specs.Decode.{refusal}
+use Rattle.bytecode.specs.declared.answers.Refusal.{Refusal}
 use Rattle.layout.specs.Opcodes.{flowOf}
+use Rattle.layout.specs.declared.opcodes.Flow.{Flow}
+use Rattle.layout.specs.declared.opcodes.Flow.the-variants.{Plain, Opener, Els, Eif}
 use Rattle.layout.specs.declared.record.Destination.{Destination}
 use Rattle.layout.specs.declared.record.Destination.the-variants.{Unused as NoDestination, Masked}
 use Rattle.layout.specs.declared.record.Token.{Token}
@@ -27,21 +30,18 @@ use Rattle.components.specs.Tokens.{pathFlow, pathTokenOf}
 use Rattle.components.specs.Access.{lacksAccess, access1Of, access2Of}
 use Rattle.paths.specs.Unwritten.{adds}
 use Rattle.components.specs.Written.{componentSet}
-use Rattle.paths.specs.Check.{judge, lacks, setBefore, nextState, currentAt, checkFrom}
+use Rattle.paths.specs.Check.{judge, lacks, setBefore, nextState, checkFrom}
 use Rattle.components.proofs.AccessLaws.{lacks-reads1, lacks-reads2}
 use Rattle.faults.specs.Rules.{destinationWrong}
-use Rattle.verifier.specs.State.{topOf, withTop, isMisplaced, metTop, partedTop}
-use Rattle.verifier.specs.Step.{stepped, nextOf, followOf}
-use Rattle.layout.specs.declared.opcodes.Flow as code
+use Rattle.verifier.specs.State.{isMisplaced, metState, wroteState, partedState, withFault}
+use Rattle.verifier.specs.Step.{nextOf, followOf}
 use Rattle.verifier.specs.declared.state.State.{State}
-use Rattle.verifier.specs.declared.step.Stepped.{Stepped}
-use Rattle.verifier.proofs.Abstract.{abstractOf, branchesIn, keptIn, misplaced-is, Valid, valid-own}
+use Rattle.verifier.proofs.Abstract.{abstractOf, branchesIn, misplaced-is, Valid}
 use Rattle.verifier.proofs.NextState.{Kept, wrote-is, nextAbstract, follows}
 
--- what a step means for the answer: its fault, or what the tokens that are left make of the next state
-abbrev pub after : State → Stepped → ℕ → List PathToken → Answer
-after st r n rest =
-    cond (eqb (r .fault .number) 0) (checkFrom (abstractOf (withTop st (r .top))) (suc n) rest) (refused (r .fault .number) (r .fault .token) (r .fault .part))
+-- what a state means for the answer: its fault, or what the tokens that are left, which are numbered from n, make of it
+abbrev pub tells : State → ℕ → List PathToken → Answer
+tells st n rest = cond (eqb (st .fault .number) 0) (checkFrom (abstractOf st) n rest) (refused (st .fault .number) (st .fault .token) (st .fault .part))
 
 -- ---- a written temporary is kept
 
@@ -68,74 +68,93 @@ kept edition stage (Masked r) e =
     let q = ap (λ x. countOf x edition stage) k in
     omega (arith, temporary-count edition stage)
 
+-- ---- the fault stays as a token is met, written and passed
+
+met-fault : (st : State) (f : Flow) → metState st f .fault ≡ st .fault
+met-fault st Plain = refl
+met-fault st Opener = refl
+met-fault st Els = refl
+met-fault st Eif = refl
+
+wrote-fault : (st : State) (d : Destination) → wroteState st d .fault ≡ st .fault
+wrote-fault st NoDestination = refl
+wrote-fault st (Masked r) = refl
+
+parted-fault : (st : State) (f : Flow) (n : ℕ) → partedState st f n .fault ≡ st .fault
+parted-fault st Plain n = refl
+parted-fault st Opener n = refl
+parted-fault st Els n = refl
+parted-fault st Eif n = refl
+
+pub valid-fault : (st : State) → Valid st → (r : Refusal) → Valid (withFault st r)
+valid-fault st v r = record { depth = v .depth; kept = v .kept; openers = v .openers; elsMet = v .elsMet }
+
 -- ---- 20, 21 and the next state, of a record with no fault of its own
 
-module _ (st : State) (v : Valid st) (n : ℕ) (t : Token) (rest : List PathToken) where
+module _ (st : State) (v : Valid st) (sound : st .fault .number ≡ 0) (n : ℕ) (t : Token) (rest : List PathToken) where
   abbrev pub pt : PathToken
   pt = pathTokenOf none t
 
-  abbrev f : code.Flow
+  abbrev f : Flow
   f = flowOf (t .opcode)
 
-  misplaced-at : misplaced (pathFlow (flowOf (t .opcode))) (branchesIn st) ≡ isMisplaced (topOf st) f
-  misplaced-at = sym (misplaced-is st v f)
-
-  module _ (m : isMisplaced (topOf st) f ≡ false) where
-    before-is : currentAt (pathFlow (flowOf (t .opcode))) (componentSet (st .current)) (keptIn st) ≡ componentSet (metTop (topOf st) f .current)
+  module _ (m : isMisplaced st f ≡ false) where
+    before-is : setBefore pt (abstractOf st) ≡ componentSet (metState st f .current)
     before-is = sym (follows st n v f m .before)
 
-    lacks1 : lacks (setBefore pt (abstractOf st)) (temporaries (reads1 t)) ≡ lacksAccess (metTop (topOf st) f .current) (access1Of t)
-    lacks1 = ap (λ w. lacks w (temporaries (reads1 t))) before-is ∙ lacks-reads1 (metTop (topOf st) f .current) t
+    lacks1 : lacks (setBefore pt (abstractOf st)) (temporaries (reads1 t)) ≡ lacksAccess (metState st f .current) (access1Of t)
+    lacks1 = ap (λ w. lacks w (temporaries (reads1 t))) before-is ∙ lacks-reads1 (metState st f .current) t
 
-    lacks2 : lacks (setBefore pt (abstractOf st)) (temporaries (reads2 t)) ≡ lacksAccess (metTop (topOf st) f .current) (access2Of t)
-    lacks2 = ap (λ w. lacks w (temporaries (reads2 t))) before-is ∙ lacks-reads2 (metTop (topOf st) f .current) t
+    lacks2 : lacks (setBefore pt (abstractOf st)) (temporaries (reads2 t)) ≡ lacksAccess (metState st f .current) (access2Of t)
+    lacks2 = ap (λ w. lacks w (temporaries (reads2 t))) before-is ∙ lacks-reads2 (metState st f .current) t
 
-  next-is : isMisplaced (topOf st) f ≡ false → Kept (t .destination) → (nextState (abstractOf st) n pt ≡ abstractOf (withTop st (nextOf (topOf st) n t))) × Valid (withTop st (nextOf (topOf st) n t))
+  next-is : isMisplaced st f ≡ false → Kept (t .destination) → (nextState (abstractOf st) n pt ≡ abstractOf (nextOf st n t)) × Valid (nextOf st n t)
   next-is m k =
-      let (w, e, c) = wrote-is (metTop (topOf st) f) (t .destination) k in
+      let (w, e, c) = wrote-is (metState st f) (t .destination) k in
       let g = follows st n v f m in
-      let o = pathFlow (flowOf (t .opcode)) in
-      let set : adds (currentAt o (componentSet (st .current)) (keptIn st)) (temporaries (writesInto (t .destination))) ≡ componentSet w = ap (λ b. adds b (temporaries (writesInto (t .destination)))) (before-is m) ∙ sym c in (
-        ap (nextAbstract (abstractOf st) o n) set
-            ∙ sym (g .after w)
-            ∙ ap (λ x. abstractOf (withTop st (partedTop x f n))) (sym e),
-        subst (λ x. Valid (withTop st (partedTop x f n))) (sym e) (g .valid w),
+      let set : adds (setBefore pt (abstractOf st)) (temporaries (writesInto (t .destination))) ≡ componentSet w = ap (λ b. adds b (temporaries (writesInto (t .destination)))) (before-is m) ∙ sym c in (
+        ap (nextAbstract (abstractOf st) (pathFlow f) n) set ∙ sym (g .after w) ∙ ap (λ x. abstractOf (partedState x f n)) (sym e),
+        subst (λ x. Valid (partedState x f n)) (sym e) (g .valid w),
       )
 
+  -- a step makes no fault but those that it names
+  next-sound : nextOf st n t .fault .number ≡ 0
+  next-sound = ap (λ r. r .number) (parted-fault (wroteState (metState st f) (t .destination)) f n ∙ wrote-fault (metState st f) (t .destination) ∙ met-fault st f) ∙ sound
+
   -- the tests by their values
-  decided : (m a b : Bool) (later : Answer) → (m ≡ false → later ≡ checkFrom (abstractOf (withTop st (nextOf (topOf st) n t))) (suc n) rest)
-      → judge none m a b n later
-      ≡ after st (cond m (stepped (refusal 20 n 0) (topOf st)) (cond a (stepped (refusal 21 n 2) (topOf st)) (cond b (stepped (refusal 21 n 3) (topOf st)) (stepped noRefusal (nextOf (topOf st) n t))))) n rest
+  abbrev byTests : Bool → Bool → Bool → State
+  byTests m a b = cond m (withFault st (refusal 20 n 0)) (cond a (withFault st (refusal 21 n 2)) (cond b (withFault st (refusal 21 n 3)) (nextOf st n t)))
+
+  decided : (m a b : Bool) (later : Answer) → (m ≡ false → later ≡ checkFrom (abstractOf (nextOf st n t)) (suc n) rest)
+      → judge none m a b n later ≡ tells (byTests m a b) (suc n) rest
   decided true a b later k = refl
   decided false true b later k = refl
   decided false false true later k = refl
-  decided false false false later k = k refl
+  decided false false false later k = k refl ∙ rw (eq-eqb (nextOf st n t .fault .number) 0 next-sound)
 
-  pub followed : Kept (t .destination) → checkFrom (abstractOf st) n (pt ∷ rest) ≡ after st (followOf (topOf st) n t) n rest
+  pub followed : Kept (t .destination) → checkFrom (abstractOf st) n (pt ∷ rest) ≡ tells (followOf st n t) (suc n) rest
   unfolding checkFrom followOf
-  followed k = go (isMisplaced (topOf st) f) refl
+  followed k = go (isMisplaced st f) refl
     where
-      go : (m : Bool) → isMisplaced (topOf st) f ≡ m
-          → judge none (misplaced (pathFlow (flowOf (t .opcode))) (branchesIn st)) (lacks (setBefore pt (abstractOf st)) (temporaries (reads1 t))) (lacks (setBefore pt (abstractOf st)) (temporaries (reads2 t))) n (checkFrom (nextState (abstractOf st) n pt) (suc n) rest)
-          ≡ after st (cond (isMisplaced (topOf st) f) (stepped (refusal 20 n 0) (topOf st)) (cond (lacksAccess (metTop (topOf st) f .current) (access1Of t)) (stepped (refusal 21 n 2) (topOf st)) (cond (lacksAccess (metTop (topOf st) f .current) (access2Of t)) (stepped (refusal 21 n 3) (topOf st)) (stepped noRefusal (nextOf (topOf st) n t))))) n rest
-      go true e = rw (misplaced-at ∙ e, e)
+      go : (m : Bool) → isMisplaced st f ≡ m
+          → judge none (misplaced (pathFlow f) (branchesIn st)) (lacks (setBefore pt (abstractOf st)) (temporaries (reads1 t))) (lacks (setBefore pt (abstractOf st)) (temporaries (reads2 t))) n (checkFrom (nextState (abstractOf st) n pt) (suc n) rest)
+          ≡ tells (byTests (isMisplaced st f) (lacksAccess (metState st f .current) (access1Of t)) (lacksAccess (metState st f .current) (access2Of t))) (suc n) rest
+      go true e = rw (sym (misplaced-is st f) ∙ e, e)
       go false e =
           let b = lacks (setBefore pt (abstractOf st)) (temporaries (reads2 t)) in
           let later = checkFrom (nextState (abstractOf st) n pt) (suc n) rest in
-          ap (λ m. judge none m (lacks (setBefore pt (abstractOf st)) (temporaries (reads1 t))) b n later) misplaced-at
-          ∙ ap (λ l. judge none (isMisplaced (topOf st) f) l b n later) (lacks1 e)
-          ∙ ap (λ l. judge none (isMisplaced (topOf st) f) (lacksAccess (metTop (topOf st) f .current) (access1Of t)) l n later) (lacks2 e)
-          ∙ decided (isMisplaced (topOf st) f) (lacksAccess (metTop (topOf st) f .current) (access1Of t)) (lacksAccess (metTop (topOf st) f .current) (access2Of t)) later (λ m. ap (λ x. checkFrom x (suc n) rest) (next-is m k .0))
+          ap (λ m. judge none m (lacks (setBefore pt (abstractOf st)) (temporaries (reads1 t))) b n later) (sym (misplaced-is st f))
+          ∙ ap (λ l. judge none (isMisplaced st f) l b n later) (lacks1 e)
+          ∙ ap (λ l. judge none (isMisplaced st f) (lacksAccess (metState st f .current) (access1Of t)) l n later) (lacks2 e)
+          ∙ decided (isMisplaced st f) (lacksAccess (metState st f .current) (access1Of t)) (lacksAccess (metState st f .current) (access2Of t)) later (λ m. ap (λ x. checkFrom x (suc n) rest) (next-is m k .0))
 
-  -- a step without a fault leaves a valid state
-  decided-valid : (m a b : Bool) → (m ≡ false → Valid (withTop st (nextOf (topOf st) n t)))
-      → let r = cond m (stepped (refusal 20 n 0) (topOf st)) (cond a (stepped (refusal 21 n 2) (topOf st)) (cond b (stepped (refusal 21 n 3) (topOf st)) (stepped noRefusal (nextOf (topOf st) n t)))) in
-      Valid (withTop st (r .top))
-  decided-valid true a b k = valid-own st v
-  decided-valid false true b k = valid-own st v
-  decided-valid false false true k = valid-own st v
+  -- a step leaves a valid state
+  decided-valid : (m a b : Bool) → (m ≡ false → Valid (nextOf st n t)) → Valid (byTests m a b)
+  decided-valid true a b k = valid-fault st v (refusal 20 n 0)
+  decided-valid false true b k = valid-fault st v (refusal 21 n 2)
+  decided-valid false false true k = valid-fault st v (refusal 21 n 3)
   decided-valid false false false k = k refl
 
-  pub follow-valid : Kept (t .destination) → Valid (withTop st (followOf (topOf st) n t .top))
+  pub follow-valid : Kept (t .destination) → Valid (followOf st n t)
   unfolding followOf
-  follow-valid k = decided-valid (isMisplaced (topOf st) f) (lacksAccess (metTop (topOf st) f .current) (access1Of t)) (lacksAccess (metTop (topOf st) f .current) (access2Of t)) (λ m. next-is m k .1)
+  follow-valid k = decided-valid (isMisplaced st f) (lacksAccess (metState st f .current) (access1Of t)) (lacksAccess (metState st f .current) (access2Of t)) (λ m. next-is m k .1)

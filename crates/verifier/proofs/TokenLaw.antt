@@ -1,6 +1,6 @@
 -- One step of the code on the bytes of a token is one token of the check over paths.
 -- Assumes nothing.
-use Prim.Native.Nat.{ℕ}
+use Prim.Native.Nat.{ℕ, suc}
 use mathlib.Core.Bool.{Bool, true, false, cond}
 use mathlib.Core.List.{List, _∷_}
 use mathlib.Core.Option.{Option, none, some}
@@ -8,7 +8,7 @@ use mathlib.Core.Path.{_≡_, refl, _∙_, sym, ap, subst}
 use native.Mathlib.Omega.{arith}
 use lib.Dec.{eqb, ltb}
 use lib.ListN.{length}
-use borrow.Author.Tests.{eq-eqb, ne-eqb}
+use borrow.Author.Tests.{eq-eqb, ne-eqb, eqb-true}
 use Rattle.bytecode.specs.Decode.{refusal, isClean, tokenFault, decodeOf}
 use Rattle.bytecode.specs.Fields.{fieldsOf}
 use Rattle.bytecode.specs.declared.answers.Refusal.{Refusal}
@@ -18,22 +18,22 @@ use Rattle.layout.specs.declared.record.Token.{Token}
 use Rattle.bytecode.proofs.DecodeLaws.{was-refused, no-faults, with-fault, clean-none, clean-by, not-clean}
 use Rattle.registers.specs.Counts.{countOf}
 use Rattle.paths.specs.Paths.{TokenFault, PathToken}
+use Rattle.paths.specs.Faults.{refused}
 use Rattle.components.specs.Tokens.{pathTokenOf}
 use Rattle.paths.specs.Check.{checkFrom}
 use Rattle.faults.specs.Rules.{opcodeTooNew, opcodeNotForStage, destinationWrong}
 use Rattle.faults.specs.Profile.{profileOf}
 use Rattle.faults.specs.Order.{firstFault, tokenRules, recordOf, pathTokenAt}
 use Rattle.faults.specs.Faults.{refusalAt, ownFault, undecodedFault}
-use Rattle.verifier.specs.State.{topOf, withTop}
-use Rattle.verifier.specs.Step.{stepped, faultOfFields, followOf, stepOf}
+use Rattle.verifier.specs.State.{withFault}
+use Rattle.verifier.specs.Step.{faultOfFields, followOf, stepOf}
 use Rattle.faults.specs.declared.profile.Profile.{Profile}
 use Rattle.verifier.specs.declared.state.State.{State}
-use Rattle.verifier.specs.declared.step.Stepped.{Stepped}
-use Rattle.verifier.proofs.Abstract.{abstractOf, Valid, valid-own}
+use Rattle.verifier.proofs.Abstract.{abstractOf, Valid}
 use Rattle.faults.proofs.FaultLaws.{none-broken}
 use Rattle.verifier.proofs.NextState.{Kept}
 use Rattle.faults.proofs.OwnFault.{token-numbered, refused-fault, taken-fault}
-use Rattle.verifier.proofs.StepLaw.{after, kept, followed, follow-valid}
+use Rattle.verifier.proofs.StepLaw.{tells, kept, valid-fault, followed, follow-valid}
 
 -- the destination of a token with none of faults 9 to 19
 destination-right : (count : ℕ → ℕ) (edition stage : ℕ) (s : List ℕ) → firstFault (tokenRules count edition stage s) ≡ none
@@ -52,7 +52,11 @@ undecoded-fault profile n r o z = go (ltb (r .number) 12) (opcodeTooNew (profile
     go false false true e = omega (arith, e)
     go false false false e = z e
 
-module _ (edition stage n : ℕ) (s : List ℕ) (h : length s ≡ 24) (st : State) (v : Valid st) (rest : List PathToken) where
+-- what follows a fault of fields, or none
+abbrev afterFault : State → ℕ → Refusal → Token → State
+afterFault st n r t = cond (eqb (r .number) 0) (followOf st n t) (withFault st r)
+
+module _ (edition stage n : ℕ) (s : List ℕ) (h : length s ≡ 24) (st : State) (v : Valid st) (sound : st .fault .number ≡ 0) (rest : List PathToken) where
   -- the token's own fault
   abbrev own : Option TokenFault
   own = firstFault (tokenRules (λ k. countOf k edition stage) edition stage s)
@@ -62,7 +66,7 @@ module _ (edition stage n : ℕ) (s : List ℕ) (h : length s ≡ 24) (st : Stat
 
   -- a fault of the token is the answer
   at-fault : (f : TokenFault) → own ≡ some f → (u : Refusal) → refusalAt n own ≡ u
-      → (checkFrom (abstractOf st) n (pathTokenOf own (recordOf s) ∷ rest) ≡ after st (stepped u (topOf st)) n rest) × (u .number ≡ 0 → ⊥)
+      → (checkFrom (abstractOf st) n (pathTokenOf own (recordOf s) ∷ rest) ≡ tells (withFault st u) (suc n) rest) × (u .number ≡ 0 → ⊥)
   unfolding checkFrom
   at-fault f e u q =
       let k = token-numbered (λ k. countOf k edition stage) edition stage s f e in
@@ -70,25 +74,21 @@ module _ (edition stage n : ℕ) (s : List ℕ) (h : length s ≡ 24) (st : Stat
       (rw (p, e, ne-eqb (f .number) 0 (λ z. omega (arith, z))), λ z. omega (arith, sym (ap (λ x. x .number) p) ∙ z))
 
   -- what is shown of a step
-  Steps : Stepped → Type 0
-  Steps r = (checkFrom (abstractOf st) n (pathTokenOf own (recordOf s) ∷ rest) ≡ after st r n rest) × Valid (withTop st (r .top))
+  Steps : State → Type 0
+  Steps next = (checkFrom (abstractOf st) n (pathTokenOf own (recordOf s) ∷ rest) ≡ tells next (suc n) rest) × Valid next
 
-  when-refused : (r : Refusal) → decodeOf s ≡ Refused r → Steps (stepped (undecodedFault profile n r (fieldsOf s .opcode)) (topOf st))
+  when-refused : (r : Refusal) → decodeOf s ≡ Refused r → Steps (withFault st (undecodedFault profile n r (fieldsOf s .opcode)))
   unfolding Steps
   when-refused r e = go own refl
     where
       q : refusalAt n own ≡ undecodedFault profile n r (fieldsOf s .opcode)
       q = refused-fault edition stage n s h r e
 
-      go : (o : Option TokenFault) → own ≡ o → (checkFrom (abstractOf st) n (pathTokenOf own (recordOf s) ∷ rest) ≡ after st (stepped (undecodedFault profile n r (fieldsOf s .opcode)) (topOf st)) n rest) × Valid (withTop st (topOf st))
+      go : (o : Option TokenFault) → own ≡ o → (checkFrom (abstractOf st) n (pathTokenOf own (recordOf s) ∷ rest) ≡ tells (withFault st (undecodedFault profile n r (fieldsOf s .opcode))) (suc n) rest) × Valid (withFault st (undecodedFault profile n r (fieldsOf s .opcode)))
       go none k = absurd (undecoded-fault profile n r (fieldsOf s .opcode) (was-refused s r h e .1) (sym (ap (λ x. x .number) (sym (ap (refusalAt n) k) ∙ q))))
-      go (some f) k = (at-fault f k _ q .0, valid-own st v)
+      go (some f) k = (at-fault f k _ q .0, valid-fault st v _)
 
-  -- what follows a fault of fields, or none
-  abbrev afterFault : Refusal → Token → Stepped
-  afterFault r t = cond (eqb (r .number) 0) (followOf (topOf st) n t) (stepped r (topOf st))
-
-  when-taken : (t : Token) → decodeOf s ≡ Accepted t → Steps (afterFault (ownFault profile n t) t)
+  when-taken : (t : Token) → decodeOf s ≡ Accepted t → Steps (afterFault st n (ownFault profile n t) t)
   unfolding Steps
   when-taken t e = go own refl
     where
@@ -99,27 +99,45 @@ module _ (edition stage n : ℕ) (s : List ℕ) (h : length s ≡ 24) (st : Stat
       q = taken-fault edition stage n s h t e .1
 
       go : (o : Option TokenFault) → own ≡ o
-          → (checkFrom (abstractOf st) n (pathTokenOf own (recordOf s) ∷ rest) ≡ after st (afterFault (ownFault profile n t) t) n rest) × Valid (withTop st (afterFault (ownFault profile n t) t .top))
+          → (checkFrom (abstractOf st) n (pathTokenOf own (recordOf s) ∷ rest) ≡ tells (afterFault st n (ownFault profile n t) t) (suc n) rest) × Valid (afterFault st n (ownFault profile n t) t)
       go none k =
           let z : ownFault profile n t .number ≡ 0 = ap (λ x. x .number) (sym q ∙ ap (refusalAt n) k) in
           let d = subst (λ x. Kept (x .destination)) (sym p) (kept edition stage (recordOf s .destination) (destination-right (λ k. countOf k edition stage) edition stage s k)) in
           rw (eq-eqb (ownFault profile n t .number) 0 z) (
             ap (λ o. checkFrom (abstractOf st) n (pathTokenOf o (recordOf s) ∷ rest)) k
                 ∙ ap (λ x. checkFrom (abstractOf st) n (pathTokenOf none x ∷ rest)) (sym p)
-                ∙ followed st v n t rest d,
-            follow-valid st v n t rest d,
+                ∙ followed st v sound n t rest d,
+            follow-valid st v sound n t rest d,
           )
       go (some f) k =
           let (a, z) = at-fault f k _ q in
-          rw (ne-eqb (ownFault profile n t .number) 0 z) (a, valid-own st v)
+          rw (ne-eqb (ownFault profile n t .number) 0 z) (a, valid-fault st v _)
 
-  pub steps : (checkFrom (abstractOf st) n (pathTokenAt (λ k. countOf k edition stage) edition stage s ∷ rest) ≡ after st (stepOf (topOf st) profile n (fieldsOf s)) n rest) × Valid (withTop st (stepOf (topOf st) profile n (fieldsOf s) .top))
-  unfolding Steps faultOfFields stepOf
-  steps = go (isClean (shapeOf (fieldsOf s .opcode)) (fieldsOf s)) refl
+  sound-steps : Steps (afterFault st n (faultOfFields profile n (fieldsOf s)) (recordOf s))
+  unfolding Steps faultOfFields
+  sound-steps = go (isClean (shapeOf (fieldsOf s .opcode)) (fieldsOf s)) refl
     where
       go : (b : Bool) → isClean (shapeOf (fieldsOf s .opcode)) (fieldsOf s) ≡ b
-          → Steps (afterFault (cond b (ownFault profile n (recordOf s)) (undecodedFault profile n (tokenFault (shapeOf (fieldsOf s .opcode)) (fieldsOf s)) (fieldsOf s .opcode))) (recordOf s))
+          → Steps (afterFault st n (cond b (ownFault profile n (recordOf s)) (undecodedFault profile n (tokenFault (shapeOf (fieldsOf s .opcode)) (fieldsOf s)) (fieldsOf s .opcode))) (recordOf s))
       go true e = when-taken (recordOf s) (sym (no-faults s h (ap (λ r. r .number) (clean-none _ _ (clean-by _ _ e))) .answer))
       go false e =
           rw (ne-eqb (undecodedFault profile n (tokenFault (shapeOf (fieldsOf s .opcode)) (fieldsOf s)) (fieldsOf s .opcode) .number) 0 (undecoded-fault profile n (tokenFault (shapeOf (fieldsOf s .opcode)) (fieldsOf s)) (fieldsOf s .opcode) (not-clean _ _ e)))
           (when-refused (tokenFault (shapeOf (fieldsOf s .opcode)) (fieldsOf s)) (sym (with-fault s h (not-clean _ _ e) .answer)))
+
+-- A step of the code is a token of the check over paths, from every valid state.
+module _ (edition stage n : ℕ) (s : List ℕ) (h : length s ≡ 24) (st : State) (v : Valid st) (rest : List PathToken) where
+  abbrev token : PathToken
+  token = pathTokenAt (λ k. countOf k edition stage) edition stage s
+
+  abbrev next : State
+  next = stepOf st (profileOf edition stage) n (fieldsOf s)
+
+  pub steps : (tells st n (token ∷ rest) ≡ tells next (suc n) rest) × Valid next
+  unfolding stepOf Steps
+  steps = go (eqb (st .fault .number) 0) refl
+    where
+      go : (b : Bool) → eqb (st .fault .number) 0 ≡ b
+          → (cond b (checkFrom (abstractOf st) n (token ∷ rest)) (refused (st .fault .number) (st .fault .token) (st .fault .part)) ≡ tells (cond b (afterFault st n (faultOfFields (profileOf edition stage) n (fieldsOf s)) (recordOf s)) st) (suc n) rest)
+          × Valid (cond b (afterFault st n (faultOfFields (profileOf edition stage) n (fieldsOf s)) (recordOf s)) st)
+      go true e = sound-steps edition stage n s h st v (eqb-true (st .fault .number) 0 e) rest
+      go false e = (rw e, v)

@@ -1,8 +1,8 @@
 pub mod Accepted
 pub mod BenchCases
 pub mod Exact
-pub mod Finish
-pub mod Pass
+pub mod Glance
 pub mod State
 pub mod Step
+pub mod Steps
 pub mod Verdict

@@ -1,109 +1,128 @@
 -- The state that the code keeps, and what a token makes of it. Nobody has to believe these: what the check answers is stated over rules and
 -- paths (Exact).
-use Prim.Native.Nat.{ℕ, _+_, _-_, _%_}
-use mathlib.Core.Bool.{Bool, true, false, cond, _||_}
+use Prim.Native.Nat.{ℕ, _+_, _%_}
+use mathlib.Core.Bool.{Bool, false, cond, not, _||_}
 use lib.Dec.{eqb, ltb, leb}
 use lib.ListN.{getD, set, replicate}
+use Rattle.bytecode.specs.Decode.{noRefusal}
+use Rattle.bytecode.specs.declared.answers.Refusal.{Refusal}
 use Rattle.components.specs.Written.{joinOf, markOf}
 use Rattle.components.specs.declared.written.Written.{Written}
+use Rattle.layout.specs.declared.opcodes.Flow.{Flow}
+use Rattle.layout.specs.declared.opcodes.Flow.the-variants.{Plain, Opener, Els, Eif}
 use Rattle.layout.specs.declared.record.MaskedRegister.{MaskedRegister}
 use Rattle.layout.specs.declared.record.Destination.{Destination}
 use Rattle.layout.specs.declared.record.Destination.the-variants.{Unused as NoDestination, Masked}
-use Rattle.layout.specs.declared.opcodes.Flow.{Flow}
-use Rattle.layout.specs.declared.opcodes.Flow.the-variants.{Plain, Opener, Els, Eif}
 use Rattle.verifier.specs.declared.state.Branch.{Branch}
 use Rattle.verifier.specs.declared.state.State.{State}
-use Rattle.verifier.specs.declared.state.Top.{Top}
 
 abbrev pub noneWritten : Written
 noneWritten = record { low = 0; high = 0 }
 
-abbrev pub blankBranch : Branch
-blankBranch = record { opener = 0; «els_met» = false; kept = noneWritten }
+abbrev pub branch : Written → ℕ → ℕ → Branch
+branch kept opener elsMet = record { kept = kept; opener = opener; «els_met» = elsMet }
 
 abbrev pub startState : State
-startState = record { current = noneWritten; depth = 0; branches = replicate 16 blankBranch }
+startState =
+    record {
+      current = noneWritten;
+      innermost = branch noneWritten 0 0;
+      depth = 0;
+      kept = replicate 16 noneWritten;
+      openers = replicate 16 0;
+      «els_met» = replicate 16 0;
+      fault = noRefusal;
+    }
 
--- where the innermost of so many open branches stands in the array
+-- where the innermost of so many open branches is put when another is opened in it
 abbrev pub slotOf : ℕ → ℕ
 slotOf depth = (depth % 16 + 15) % 16
 
--- where a token puts its branch
-abbrev pub slotAfter : ℕ → ℕ → ℕ
-slotAfter before after = cond (ltb before after) (slotOf after) (slotOf before)
+-- where the branch around it stands
+abbrev pub slotAround : ℕ → ℕ
+slotAround depth = (depth % 16 + 14) % 16
 
--- what a token can touch of a state
-abbrev pub topOf : State → Top
-topOf st = record { current = st .current; depth = st .depth; branch = getD (st .branches) (slotOf (st .depth)) blankBranch }
-
--- a state with what a token made of its top
-abbrev pub withTop : State → Top → State
-withTop st t =
-    record {
-      current = t .current;
-      depth = t .depth;
-      branches = set (st .branches) (slotAfter (st .depth) (t .depth)) (t .branch);
-    }
-
--- no branch is open, or more than there is room for, which no token makes
-abbrev pub isOutside : Top → Bool
-isOutside t = ltb (t .depth) 1 || ltb 16 (t .depth)
+-- the branch at a place of the arrays
+abbrev pub branchAt : State → ℕ → Branch
+branchAt st i = branch (getD (st .kept) i noneWritten) (getD (st .openers) i 0) (getD (st .«els_met») i 0)
 
 -- 20
-abbrev pub isMisplaced : Top → Flow → Bool
-isMisplaced t Plain = false
-isMisplaced t Opener = leb 16 (t .depth)
-isMisplaced t Els = isOutside t || t .branch .«els_met»
-isMisplaced t Eif = isOutside t
+abbrev pub misplacedAt : Flow → ℕ → ℕ → Bool
+misplacedAt Plain depth elsMet = false
+misplacedAt Opener depth elsMet = leb 16 depth
+misplacedAt Els depth elsMet = ltb depth 1 || not (eqb elsMet 0)
+misplacedAt Eif depth elsMet = ltb depth 1
 
--- another set at hand
-abbrev pub withCurrent : Top → Written → Top
-withCurrent t w = record { current = w; depth = t .depth; branch = t .branch }
+abbrev pub isMisplaced : State → Flow → Bool
+isMisplaced st flow = misplacedAt flow (st .depth) (st .innermost .«els_met»)
 
--- els exchanges the set at hand with the kept one
-abbrev pub exchanged : Top → Top
-exchanged t =
+-- a state by what a token changes in it: the set at hand, the innermost branch and how many are open
+abbrev pub changed : State → Written → Branch → ℕ → State
+changed st current innermost depth =
     record {
-      current = t .branch .kept;
-      depth = t .depth;
-      branch = record { opener = t .branch .opener; «els_met» = true; kept = t .current };
+      current = current;
+      innermost = innermost;
+      depth = depth;
+      kept = st .kept;
+      openers = st .openers;
+      «els_met» = st .«els_met»;
+      fault = st .fault;
     }
 
+-- another set at hand
+abbrev pub withCurrent : State → Written → State
+withCurrent st w = changed st w (st .innermost) (st .depth)
+
+abbrev pub withFault : State → Refusal → State
+withFault st fault =
+    record {
+      current = st .current;
+      innermost = st .innermost;
+      depth = st .depth;
+      kept = st .kept;
+      openers = st .openers;
+      «els_met» = st .«els_met»;
+      fault = fault;
+    }
+
+-- els exchanges the set at hand with the kept one
+abbrev pub exchangedState : State → State
+exchangedState st = changed st (st .innermost .kept) (branch (st .current) (st .innermost .opener) 1) (st .depth)
+
 -- eif joins the two and closes the branch
-unfoldable pub joined : Top → Top
-joined t =
-    cond (ltb (t .depth) 1) t
-    (record { current = joinOf (t .current) (t .branch .kept); depth = t .depth - 1; branch = t .branch })
+abbrev pub joinedState : State → State
+joinedState st =
+    changed st (joinOf (st .current) (st .innermost .kept)) (branchAt st (slotAround (st .depth))) (slotOf (st .depth))
 
-abbrev pub metTop : Top → Flow → Top
-metTop t Plain = t
-metTop t Opener = t
-metTop t Els = exchanged t
-metTop t Eif = joined t
+abbrev pub metState : State → Flow → State
+metState st Plain = st
+metState st Opener = st
+metState st Els = exchangedState st
+metState st Eif = joinedState st
 
--- an opener keeps the set at hand for the other side
-unfoldable pub opened : Top → ℕ → Top
-opened t n =
-    cond (leb 16 (t .depth)) t
-    (record {
-      current = t .current;
-      depth = t .depth + 1;
-      branch = record { opener = n; «els_met» = false; kept = t .current };
-    })
+-- an opener keeps the set at hand for the other side, and puts away the branch that was innermost
+abbrev pub openedState : State → ℕ → State
+openedState st n =
+    record {
+      current = st .current;
+      innermost = branch (st .current) n 0;
+      depth = st .depth % 16 + 1;
+      kept = set (st .kept) (slotOf (st .depth)) (st .innermost .kept);
+      openers = set (st .openers) (slotOf (st .depth)) (st .innermost .opener);
+      «els_met» = set (st .«els_met») (slotOf (st .depth)) (st .innermost .«els_met»);
+      fault = st .fault;
+    }
 
-abbrev pub partedTop : Top → Flow → ℕ → Top
-partedTop t Plain n = t
-partedTop t Opener n = opened t n
-partedTop t Els n = t
-partedTop t Eif n = t
+abbrev pub partedState : State → Flow → ℕ → State
+partedState st Plain n = st
+partedState st Opener n = openedState st n
+partedState st Els n = st
+partedState st Eif n = st
 
 -- a set with what is written to a register, where that is a temporary one
 abbrev pub writtenBy : Written → MaskedRegister → Written
-writtenBy w r = cond (eqb (r .kind) 2) (markOf w (r .number) (r .mask)) w
+writtenBy w r = markOf w (r .number) (cond (eqb (r .kind) 2) (r .mask) 0)
 
-abbrev pub marked : Top → MaskedRegister → Top
-marked t r = withCurrent t (writtenBy (t .current) r)
-
-abbrev pub wroteTop : Top → Destination → Top
-wroteTop t NoDestination = t
-wroteTop t (Masked r) = marked t r
+abbrev pub wroteState : State → Destination → State
+wroteState st NoDestination = st
+wroteState st (Masked r) = withCurrent st (writtenBy (st .current) r)

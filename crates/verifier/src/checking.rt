@@ -1,20 +1,19 @@
 // The whole check of a program.
 ghost use mathlib.Core.Path.{_≡_};
-ghost use Prim.Native.Nat.{_+_, _*_, _≤_};
+ghost use Prim.Native.Nat.{_<_, _≤_};
 ghost use lib.ListN.{length};
-ghost use Rattle.paths.specs.Check.{verdictOf};
-ghost use Rattle.bytecode.specs.Fields.{fieldsOf};
-ghost use Rattle.faults.specs.Order.{tokenAt, tokensOf};
-ghost use Rattle.verifier.specs.Verdict.{answerOf, opensUnlisted};
-ghost use Rattle.verifier.specs.Finish.{finishOf};
+ghost use Rattle.faults.specs.Rules.{tokenCount};
+ghost use Rattle.verifier.specs.Verdict.{opensUnlisted};
+ghost use Rattle.verifier.specs.Steps.{finishOf, judgedBy};
 ghost use Rattle.verifier.specs.Exact.{Checks};
 use crate::answers::Checked;
 use crate::answers::Program;
-use crate::plain;
+use crate::glance;
+use crate::places;
 use crate::state;
-use crate::state::Top;
-use layout::fields::Fields;
+use crate::state::State;
 use layout::opcodes;
+use layout::opcodes::Flow;
 
 // Judges a program under an edition, in one pass over its tokens.
 pub fn check(edition: u32, bytes: &[u8]) -> Checked
@@ -39,15 +38,17 @@ fn opens_unlisted(bytes: &[u8]) -> bool
     if bytes.len() < 31 {
         return false;
     }
-    let f = fields_at(bytes, 0);
+    let f = places::fields_at(bytes, 0);
     let shape = opcodes::shape_of(f.opcode);
     !shape.listed
 }
 
-// Faults 9 to 22 of a program that has a header. The state is declared first, since the compiler then keeps the set at hand in registers.
+// Faults 9 to 22 of a program that has a header. What a branch's token does is chosen here and not in one method for all: the compiler then
+// changes the state in its place, where it would copy it into the method and out again.
 fn check_tokens(edition: u32, bytes: &[u8]) -> Checked
     requires { ⌜ 7 ≤ length (now bytes) ⌝ }
-    ensures { λ r. ⌜ r ≡ answerOf (now (bytes .entry)) (verdictOf (tokensOf edition (now (bytes .entry)))) ⌝ }
+    requires { ⌜ tokenCount (now bytes) < 65536 ⌝ }
+    ensures { λ r. ⌜ r ≡ judgedBy edition (now (bytes .entry)) ⌝ }
 {
     let mut state = state::START;
     let mut token = 0;
@@ -56,51 +57,63 @@ fn check_tokens(edition: u32, bytes: &[u8]) -> Checked
     let profile = faults::profile_of(edition, stage);
     let usable = faults::usable_of(profile);
     while token < count {
-        let f = fields_at(bytes, token);
         let current = state.current;
-        let passed = plain::pass(profile, usable, current, f);
-        if passed.known {
-            let current = passed.current;
-            state.current = current;
-            token += 1;
+        let run = glance::pass_tokens(profile, usable, current, bytes, token, count);
+        let current = run.current;
+        state.current = current;
+        token = run.token;
+        if count <= token {
             continue;
         }
-        let depth = state.depth;
-        let innermost = state.branches[state::slot(depth)];
-        let stepped = Top::new(current, depth, innermost.copied()).step(profile, usable, token, f);
-        let fault = stepped.fault;
+        let f = places::fields_at(bytes, token);
+        let number = token as u16;
+        let innermost = state.innermost;
+        token += 1;
+        let known = glance::known_branch(
+            profile,
+            usable,
+            state.depth,
+            innermost.els_met,
+            current,
+            f,
+        );
+        match known {
+            Flow::Opener => {
+                state = state.opened(number);
+                continue;
+            }
+            Flow::Els => {
+                state = state.exchanged();
+                continue;
+            }
+            Flow::Eif => {
+                state = state.joined();
+                continue;
+            }
+            Flow::Plain => {}
+        }
+        state = state.step(profile, number, f);
+        let fault = state.fault;
         if fault.number != 0 {
             return Checked::Refused(fault);
         }
-        let next = stepped.top;
-        let innermost = next.branch;
-        let current = next.current;
-        let branch = innermost.copied();
-        state.branches[state::slot_after(depth, next.depth)] = branch;
-        state.current = current;
-        state.depth = next.depth;
-        token += 1;
     }
-    let innermost = state.branches[state::slot(state.depth)];
-    finish(state.depth, innermost.opener, stage, count)
+    state.finish(stage, count)
 }
 
-// The fields of a token.
-fn fields_at(bytes: &[u8], token: usize) -> Fields
-    requires { ⌜ 7 + token * 24 + 24 ≤ length (now bytes) ⌝ }
-    ensures { λ r. ⌜ r ≡ fieldsOf (tokenAt (now (bytes .entry)) token) ⌝ }
-{
-    let at = 7 + token * 24;
-    let end = at + 24;
-    bytecode::fields_of(&bytes[at..end])
-}
-
-// The end of the check: 22 where a branch is still open, at its opener.
-fn finish(depth: usize, opener: usize, stage: u8, tokens: usize) -> Checked
-    ensures { λ r. ⌜ r ≡ finishOf depth opener stage tokens ⌝ }
-{
-    if depth == 0 {
-        return Checked::Accepted(Program { stage, tokens });
+impl State {
+    // The answer after the last token: the fault that was met, or 22 where a branch is still open, at its opener.
+    pub(crate) fn finish(self, stage: u8, tokens: usize) -> Checked
+        ensures { λ r. ⌜ r ≡ finishOf self stage tokens ⌝ }
+    {
+        let fault = self.fault;
+        if fault.number != 0 {
+            return Checked::Refused(fault);
+        }
+        if self.depth == 0 {
+            return Checked::Accepted(Program { stage, tokens });
+        }
+        let innermost = self.innermost;
+        Checked::Refused(faults::refusal(22, innermost.opener as usize, 0))
     }
-    Checked::Refused(faults::refusal(22, opener, 0))
 }

@@ -3,7 +3,8 @@
 // Header, one-token step and end are functions of their own, so that a program can be judged token by token.
 pub mod answers;
 mod checking;
-mod plain;
+mod glance;
+mod places;
 mod state;
 mod step;
 

@@ -1,107 +1,100 @@
 // The state of the check between two tokens: what is written on every path to here, and for each open branch what is written on the other
-// way through it. What a token can touch of it goes in by value, and the next comes back.
+// way through it. It goes by value: what a token does to it is a method that takes the state and hands the next one back. Each is defined for
+// every state and every number.
+ghost use mathlib.Core.Bool.{cond};
 ghost use mathlib.Core.Path.{_≡_};
 ghost use Prim.Native.Nat.{_<_};
 ghost use Rattle.layout.specs.Records.{destinationOf};
-ghost use Rattle.verifier.specs.State.{slotOf, slotAfter, isMisplaced, exchanged as exchangedTop, joined as joinedTop, metTop, opened as openedTop, partedTop, writtenBy, marked as markedTop, wroteTop};
+ghost use Rattle.verifier.specs.State.{slotOf, slotAround, misplacedAt, isMisplaced, withFault, exchangedState, joinedState, metState, openedState, partedState, writtenBy, wroteState};
+use bytecode::answers::Refusal;
 use components::written;
 use components::written::Written;
 use layout::opcodes::Flow;
 use layout::record::MaskedRegister;
 
-// An open branch: its opener's token number, whether its els was met, and the set kept for the path that does not come by here.
+// An open branch: the set kept for the path that does not come by here, its opener's token number, and whether its els was met, 0 if not.
 pub struct Branch {
-    pub opener: usize,
-    pub els_met: bool,
     pub kept: Written,
+    pub opener: u16,
+    pub els_met: u8,
 }
 
-impl Branch {
-    // The same branch, field by field: a copy of the whole would move the bytes between its fields too.
-    pub(crate) fn copied(self) -> Branch
-        ensures { λ r. ⌜ r ≡ self ⌝ }
-    {
-        let kept = self.kept;
-        Branch {
-            opener: self.opener,
-            els_met: self.els_met,
-            kept,
-        }
-    }
-}
-
-// The open branches are the first `depth` of the array, the innermost last.
+// The innermost of the open branches stands by itself, since most tokens that change a branch change that one. The arrays have those around
+// it, the outermost first. A fault with number 0 is none.
 pub struct State {
     pub current: Written,
+    pub innermost: Branch,
     pub depth: usize,
-    pub branches: [Branch; 16],
+    pub kept: [Written; 16],
+    pub openers: [u16; 16],
+    pub els_met: [u8; 16],
+    pub fault: Refusal,
 }
 
-// Before the first token nothing is written and no branch is open.
+// Before the first token nothing is written, no branch is open and there is no fault.
 pub const START: State = State {
     current: Written { low: 0, high: 0 },
-    depth: 0,
-    branches: [Branch {
-        opener: 0,
-        els_met: false,
+    innermost: Branch {
         kept: Written { low: 0, high: 0 },
-    }; 16],
+        opener: 0,
+        els_met: 0,
+    },
+    depth: 0,
+    kept: [Written { low: 0, high: 0 }; 16],
+    openers: [0; 16],
+    els_met: [0; 16],
+    fault: Refusal {
+        number: 0,
+        token: 0,
+        part: 0,
+    },
 };
 
-// What a token can touch: the set at hand, how many branches are open, and the innermost of them.
-pub struct Top {
-    pub current: Written,
-    pub depth: usize,
-    pub branch: Branch,
-}
-
-// Where the innermost of so many open branches stands in the array. Every number has a place, and the state that has no open branch keeps
-// what stands there.
-pub(crate) fn slot(depth: usize) -> usize
+// Where the innermost of so many open branches is put when another is opened in it. Every number has a place.
+fn slot(depth: usize) -> usize
     ensures { λ r. ⌜ (r ≡ slotOf depth) × (r < 16) ⌝ }
 {
     (depth % 16 + 15) % 16
 }
 
-// Where a token puts its branch, by the depth before and after it: an opener's is a new one.
-pub(crate) fn slot_after(before: usize, after: usize) -> usize
-    ensures { λ r. ⌜ (r ≡ slotAfter before after) × (r < 16) ⌝ }
+// Where the branch around it stands.
+fn slot_around(depth: usize) -> usize
+    ensures { λ r. ⌜ (r ≡ slotAround depth) × (r < 16) ⌝ }
 {
-    if before < after {
-        return slot(after);
-    }
-    slot(before)
+    (depth % 16 + 14) % 16
 }
 
-impl Top {
-    pub(crate) fn new(current: Written, depth: usize, branch: Branch) -> Top
-        ensures { λ r. ⌜ r ≡ record { current = current; depth = depth; branch = branch } ⌝ }
+// Fault 20, by the number of open branches and whether the els of the innermost was met.
+pub(crate) fn is_misplaced(flow: Flow, depth: usize, els_met: u8) -> bool
+    ensures { λ r. ⌜ r ≡ misplacedAt flow depth «els_met» ⌝ }
+{
+    match flow {
+        Flow::Plain => false,
+        Flow::Opener => 16 <= depth,
+        Flow::Els => (depth < 1) | (els_met != 0),
+        Flow::Eif => depth < 1,
+    }
+}
+
+impl State {
+    // The same state with a fault.
+    pub(crate) fn refused(mut self, fault: Refusal) -> State
+        ensures { λ r. ⌜ r ≡ withFault self fault ⌝ }
     {
-        Top {
-            current,
-            depth,
-            branch,
-        }
+        self.fault = fault;
+        self
     }
 
-    // Fault 20.
     pub(crate) fn is_misplaced(self, flow: Flow) -> bool
         ensures { λ r. ⌜ r ≡ isMisplaced self flow ⌝ }
     {
-        let depth = self.depth;
-        let branch = self.branch;
-        let none = (depth < 1) | (16 < depth);
-        match flow {
-            Flow::Plain => false,
-            Flow::Opener => 16 <= depth,
-            Flow::Els => none | branch.els_met,
-            Flow::Eif => none,
-        }
+        let innermost = self.innermost;
+        is_misplaced(flow, self.depth, innermost.els_met)
     }
 
     // As a token is met: els takes up the set from before the branch, eif joins the sets of both blocks and closes the branch.
-    pub(crate) fn met(self, flow: Flow) -> Top
-        ensures { λ r. ⌜ r ≡ metTop self flow ⌝ }
+    pub(crate) fn met(self, flow: Flow) -> State
+        ensures { λ r. ⌜ r ≡ metState self flow ⌝ }
     {
         match flow {
             Flow::Plain => self,
@@ -111,44 +104,45 @@ impl Top {
         }
     }
 
-    fn exchanged(self) -> Top
-        ensures { λ r. ⌜ r ≡ exchangedTop self ⌝ }
+    pub(crate) fn exchanged(mut self) -> State
+        ensures { λ r. ⌜ r ≡ exchangedState self ⌝ }
     {
-        let branch = self.branch;
         let current = self.current;
-        let kept = branch.kept;
-        Top {
-            current: kept,
-            depth: self.depth,
-            branch: Branch {
-                opener: branch.opener,
-                els_met: true,
-                kept: current,
-            },
-        }
+        let innermost = self.innermost;
+        let kept = innermost.kept;
+        let in_second = Branch {
+            kept: current,
+            opener: innermost.opener,
+            els_met: 1,
+        };
+        self.current = kept;
+        self.innermost = in_second;
+        self
     }
 
-    fn joined(self) -> Top
-        ensures { λ r. ⌜ r ≡ joinedTop self ⌝ }
+    pub(crate) fn joined(mut self) -> State
+        ensures { λ r. ⌜ r ≡ joinedState self ⌝ }
     {
-        let depth = self.depth;
-        if depth < 1 {
-            return self;
-        }
-        let branch = self.branch;
         let current = self.current;
-        let kept = branch.kept;
+        let innermost = self.innermost;
+        let kept = innermost.kept;
         let both = written::join(current, kept);
-        Top {
-            current: both,
-            depth: depth - 1,
-            branch,
-        }
+        let place = slot_around(self.depth);
+        let kept_around = self.kept[place];
+        let around = Branch {
+            kept: kept_around,
+            opener: self.openers[place],
+            els_met: self.els_met[place],
+        };
+        self.current = both;
+        self.innermost = around;
+        self.depth = slot(self.depth);
+        self
     }
 
     // After a token: an opener keeps the set at hand for the other side.
-    pub(crate) fn parted(self, flow: Flow, token: usize) -> Top
-        ensures { λ r. ⌜ r ≡ partedTop self flow token ⌝ }
+    pub(crate) fn parted(self, flow: Flow, token: u16) -> State
+        ensures { λ r. ⌜ r ≡ partedState self flow token ⌝ }
     {
         match flow {
             Flow::Plain => self,
@@ -158,52 +152,49 @@ impl Top {
         }
     }
 
-    fn opened(self, token: usize) -> Top
-        ensures { λ r. ⌜ r ≡ openedTop self token ⌝ }
+    pub(crate) fn opened(mut self, token: u16) -> State
+        ensures { λ r. ⌜ r ≡ openedState self token ⌝ }
     {
-        let depth = self.depth;
-        if 16 <= depth {
-            return self;
-        }
+        let place = slot(self.depth);
         let current = self.current;
-        Top {
-            current,
-            depth: depth + 1,
-            branch: Branch {
-                opener: token,
-                els_met: false,
-                kept: current,
-            },
-        }
-    }
-
-    // With the components that a token writes, where its destination is a temporary register.
-    pub(crate) fn wrote(self, used: bool, field: u64) -> Top
-        ensures { λ r. ⌜ r ≡ wroteTop self (destinationOf used field) ⌝ }
-    {
-        if used {
-            return self.marked(layout::unpack_register(field));
-        }
+        let innermost = self.innermost;
+        let kept = innermost.kept;
+        self.kept[place] = kept;
+        self.openers[place] = innermost.opener;
+        self.els_met[place] = innermost.els_met;
+        let opened = Branch {
+            kept: current,
+            opener: token,
+            els_met: 0,
+        };
+        self.innermost = opened;
+        self.depth = self.depth % 16 + 1;
         self
     }
 
-    fn marked(self, register: MaskedRegister) -> Top
-        ensures { λ r. ⌜ r ≡ markedTop self register ⌝ }
+    // With the components that a token writes, where its destination is a temporary register.
+    pub(crate) fn wrote(mut self, used: bool, field: u64) -> State
+        ensures { λ r. ⌜ r ≡ wroteState self (destinationOf used field) ⌝ }
     {
-        let current = self.current;
-        let more = written_by(current, register);
-        let mut next = self;
-        next.current = more;
-        next
+        if used {
+            let current = self.current;
+            let more = written_by(current, layout::unpack_register(field));
+            self.current = more;
+        }
+        self
     }
 }
 
-// A set with what is written to a register, where that is a temporary one.
+// A set with what is written to a register, where that is a temporary one. There is no branch to guess: kinds come in no order.
 pub(crate) fn written_by(current: Written, register: MaskedRegister) -> Written
     ensures { λ r. ⌜ r ≡ writtenBy current register ⌝ }
 {
-    if register.kind != 2 {
-        return current;
-    }
-    written::mark(current, register.number, register.mask)
+    let mask = temporary_mask(register.kind == 2, register.mask);
+    written::mark(current, register.number, mask)
+}
+
+fn temporary_mask(temporary: bool, mask: u8) -> u8
+    ensures { λ r. ⌜ r ≡ cond temporary mask 0 ⌝ }
+{
+    if temporary { mask } else { 0 }
 }

@@ -1,85 +1,63 @@
-// One token: the first fault that it has, or the next state.
+// One token: the state after it, with the token's first fault where it has one.
 ghost use mathlib.Core.Path.{_≡_};
 ghost use Rattle.layout.specs.Opcodes.{shapeOf};
 ghost use Rattle.layout.specs.Records.{tokenOf};
-ghost use Rattle.faults.specs.Plain.{usableOf};
-ghost use Rattle.faults.specs.Profile.{profileOf};
 ghost use Rattle.verifier.specs.Step.{faultOfFields, followOf, stepOf};
-use crate::state::Top;
+use crate::state::State;
 use bytecode::answers::Refusal;
 use components::access;
-use faults::plain::Usable;
 use faults::profile::Profile;
 use layout::fields::Fields;
 use layout::opcodes;
 use layout::opcodes::Shape;
 
-// A fault with number 0 is none, and only then is the top the next one.
-pub struct Stepped {
-    pub fault: Refusal,
-    pub top: Top,
-}
-
-impl Top {
-    // Judges one token, whose number is `token`, by its fields. Faults 9 to 19 come before those of branches and paths.
-    pub(crate) fn step(self, profile: Profile, usable: Usable, token: usize, f: Fields) -> Stepped
-        requires { ⌜ profile ≡ profileOf (profile .edition) (profile .stage) ⌝ }
-        requires { ⌜ usable ≡ usableOf profile ⌝ }
+impl State {
+    // Judges one token, whose number is `token`, by its fields. Faults 9 to 19 come before those of branches and paths. A state that has a fault
+    // stays as it is: the first fault counts.
+    pub(crate) fn step(self, profile: Profile, token: u16, f: Fields) -> State
         ensures { λ r. ⌜ r ≡ stepOf self profile token f ⌝ }
     {
+        let held = self.fault;
+        if held.number != 0 {
+            return self;
+        }
         let shape = opcodes::shape_of(f.opcode);
-        let fault = fault_of_fields(profile, usable, token, shape, f);
+        let fault = fault_of_fields(profile, token, shape, f);
         if fault.number != 0 {
-            return Stepped { fault, top: self };
+            return self.refused(fault);
         }
         self.follow(token, shape, f)
     }
 
-    // 20, 21, and the next top.
-    fn follow(self, token: usize, shape: Shape, f: Fields) -> Stepped
+    // 20, 21, and the next state.
+    fn follow(self, token: u16, shape: Shape, f: Fields) -> State
         ensures { λ r. ⌜ r ≡ followOf self token (tokenOf shape f) ⌝ }
     {
         let flow = opcodes::flow_of(f.opcode);
         if self.is_misplaced(flow) {
-            let fault = faults::refusal(20, token, 0);
-            return Stepped { fault, top: self };
+            return self.refused(faults::refusal(20, token as usize, 0));
         }
         let met = self.met(flow);
         let current = met.current;
         if access::reads_unwritten1(current, shape, f) {
-            let fault = faults::refusal(21, token, 2);
-            return Stepped { fault, top: self };
+            return self.refused(faults::refusal(21, token as usize, 2));
         }
         if access::reads_unwritten2(current, shape, f) {
-            let fault = faults::refusal(21, token, 3);
-            return Stepped { fault, top: self };
+            return self.refused(faults::refusal(21, token as usize, 3));
         }
-        let fault = faults::refusal(0, 0, 0);
-        let next = met.wrote(shape.destination, f.destination)
-            .parted(flow, token);
-        Stepped { fault, top: next }
+        met.wrote(shape.destination, f.destination)
+            .parted(flow, token)
     }
 }
 
-// The first of faults 9 to 19. Branches mostly have none, which is told before the rules are asked.
-fn fault_of_fields(
-    profile: Profile,
-    usable: Usable,
-    token: usize,
-    shape: Shape,
-    f: Fields,
-) -> Refusal
-    requires { ⌜ profile ≡ profileOf (profile .edition) (profile .stage) ⌝ }
-    requires { ⌜ usable ≡ usableOf profile ⌝ }
+// The first of faults 9 to 19.
+fn fault_of_fields(profile: Profile, token: u16, shape: Shape, f: Fields) -> Refusal
     requires { ⌜ shape ≡ shapeOf (f .opcode) ⌝ }
     ensures { λ r. ⌜ r ≡ faultOfFields profile token f ⌝ }
 {
-    if faults::is_plain_branch(profile, usable, f) {
-        return faults::refusal(0, 0, 0);
-    }
     if bytecode::is_clean(shape, f) {
-        return faults::own_fault(profile, token, shape, f);
+        return faults::own_fault(profile, token as usize, shape, f);
     }
     let refused = bytecode::fault_of(shape, f);
-    faults::undecoded_fault(profile, token, refused, f.opcode)
+    faults::undecoded_fault(profile, token as usize, refused, f.opcode)
 }

@@ -9,9 +9,9 @@ use Rattle.bytecode.specs.declared.answers.Refusal.{Refusal}
 use Rattle.faults.specs.Header.{headerFault}
 use Rattle.verifier.specs.Exact.{HeaderRight}
 use Rattle.verifier.specs.declared.answers.Checked.the-variants.{Refused}
-use Rattle.verifier.proofs.HeaderLaw.{header-refuses, header-right, tokens-answer, has-header}
+use Rattle.verifier.proofs.HeaderLaw.{header-refuses, header-right, tokens-answer, has-header, few-tokens}
 use Rattle.verifier.proofs.ExactCheck.{checks}
-use Rattle.verifier.proofs.LoopLaw.{unlisted-refused}
+use Rattle.verifier.proofs.StepsLaw.{unlisted-refused, judged}
 use Rattle.verifier.proofs.checking.check.Statement.{statement}
 use Rattle.verifier.proofs.checking.check.Tie as tie
 
@@ -43,12 +43,13 @@ returns-2 c =
     let bytes = now (at-start .args .bytes) in
     let right = no-header-fault edition bytes _ (c .before .before .before .before .before .header-fault .ensures) (c .before .before .before .if1 .left) in
     let unlisted = sym (c .before .before .opens-unlisted .ensures) ∙ c .before .if2 .taken in
-    checks edition bytes _ (ap Refused (c .refusal .ensures) ∙ unlisted-refused edition bytes (has-header edition bytes right) unlisted ∙ sym (tokens-answer edition bytes right))
+    checks edition bytes _ (ap Refused (c .refusal .ensures) ∙ unlisted-refused edition bytes (has-header edition bytes right) unlisted ∙ judged edition bytes (has-header edition bytes right) ∙ sym (tokens-answer edition bytes right))
 
 check-tokens-requires : tie.Need-check-tokens-requires
 check-tokens-requires c κs =
     let at-start = c .before .before .before .before .before .before in
-    has-header (at-start .args .edition) (now (at-start .args .bytes)) (no-header-fault _ _ _ (c .before .before .before .before .header-fault .ensures) (c .before .before .if1 .left))
+    let right = no-header-fault _ _ _ (c .before .before .before .before .header-fault .ensures) (c .before .before .if1 .left) in
+    (has-header (at-start .args .edition) (now (at-start .args .bytes)) right, few-tokens (at-start .args .edition) (now (at-start .args .bytes)) right)
 
 returns-3 : tie.Need-returns-3
 returns-3 c =
@@ -56,7 +57,7 @@ returns-3 c =
     let edition = at-start .args .edition in
     let bytes = now (at-start .args .bytes) in
     let right = no-header-fault edition bytes _ (c .before .before .before .before .before .header-fault .ensures) (c .before .before .before .if1 .left) in
-    checks edition bytes _ (c .check-tokens .ensures ∙ sym (tokens-answer edition bytes right))
+    checks edition bytes _ (c .check-tokens .ensures ∙ judged edition bytes (has-header edition bytes right) ∙ sym (tokens-answer edition bytes right))
 
 pub check-spec : {M : Type 1} → statement M
 check-spec =

@@ -1,35 +1,25 @@
 -- `check_tokens` meets its contract.
 -- Assumes nothing.
-use Prim.Native.Nat.{ℕ, _+_, _^_, _≤_, _<_}
-use mathlib.Core.Path.{_≡_, refl, _∙_, sym, ap, ap₂}
+use Prim.Native.Nat.{ℕ, _+_, _-_, _^_, _≤_, _<_}
+use mathlib.Core.List.{List}
+use mathlib.Core.Path.{_≡_, refl, _∙_, sym, ap}
 use native.Mathlib.Omega.{arith}
 use borrow.Author.Needs.{needs}
-use lib.ListN.{getD, set}
 use denote.Ref.{now}
-use Rattle.paths.specs.Check.{verdictOf}
-use Rattle.faults.specs.Rules.{stageOf, tokenCount}
-use Rattle.faults.specs.Order.{tokensOf}
-use Rattle.faults.specs.Profile.{profileOf}
-use Rattle.faults.specs.declared.profile.Profile.{Profile}
-use Rattle.verifier.specs.State.{blankBranch, topOf}
-use Rattle.verifier.specs.Finish.{finishOf}
-use Rattle.verifier.specs.Verdict.{answerOf}
-use Rattle.verifier.specs.declared.state.Branch.{Branch}
-use Rattle.verifier.specs.declared.state.State.{State}
-use Rattle.verifier.specs.declared.state.Top.{Top}
-use Rattle.verifier.proofs.Abstract.{Valid, valid-start}
-use Rattle.verifier.proofs.LoopLaw.{answerFrom, left, begins, turn-valid, goes-on, stops, pass-valid, pass-goes-on, ends}
+use Rattle.layout.specs.declared.fields.Fields.{Fields}
+use Rattle.layout.specs.declared.opcodes.Flow.{Flow}
+use Rattle.layout.specs.declared.opcodes.Flow.the-variants.{Opener, Els, Eif}
+use Rattle.faults.specs.Rules.{tokenCount}
+use Rattle.verifier.specs.State.{withCurrent}
+use Rattle.verifier.proofs.TurnLaw.{Reached, reached-first, reached-last, after-run, after-step, after-branch, refused-at}
 use Rattle.verifier.proofs.checking.check_tokens.Statement.{statement}
 use Rattle.verifier.proofs.checking.check_tokens.Tie as tie
 
 abbrev Inv-loop : tie.InvT-loop
-Inv-loop edition bytes stage count profile usable state₀ token₀ state token =
-    (token ≤ tokenCount bytes)
-    × Valid state
-    × (answerOf bytes (answerFrom edition bytes state token (left bytes token)) ≡ answerOf bytes (verdictOf (tokensOf edition bytes)))
+Inv-loop edition bytes state₀ token₀ stage count profile usable state token = Reached edition bytes state token
 
 abbrev μ-loop : tie.MeasureT-loop
-μ-loop edition bytes stage count profile usable state₀ token₀ state token = left bytes token
+μ-loop edition bytes state₀ token₀ stage count profile usable state token = tokenCount bytes - token
 
 shared-slice-read-stage : tie.Need-shared-slice-read-stage Inv-loop μ-loop
 shared-slice-read-stage c = search needs
@@ -44,170 +34,167 @@ usable-of-requires : tie.Need-usable-of-requires Inv-loop μ-loop
 usable-of-requires c κs = search needs
 
 loop-holds : tie.Need-loop-holds Inv-loop μ-loop
-loop-holds c =
-    let at-start = c .before .before .before .before in
-    (omega arith, valid-start, ap (answerOf (now (at-start .args .bytes))) (begins (at-start .args .edition) (now (at-start .args .bytes))))
+loop-holds c = reached-first (c .before .before .before .before .args .edition) (now (c .before .before .before .before .args .bytes))
 
-fields-at-requires : tie.Need-fields-at-requires Inv-loop μ-loop
-fields-at-requires c κs = search needs
-
-pass-requires : tie.Need-pass-requires Inv-loop μ-loop
-pass-requires c κs = search needs
-
-add-token : tie.Need-add-token Inv-loop μ-loop
-add-token c =
-    let h : c .before .before .before .before .before .before .loop .token + 1 < 2 ^ 64 = search (needs, c .before .before .before .before .before .loop-test .taken, c .before .before .before .before .before .before .before .before .before .before .before .good) in
-    record { fits = h }
+pass-tokens-requires : tie.Need-pass-tokens-requires Inv-loop μ-loop
+pass-tokens-requires c κs =
+    let within = c .before .before .loop .inv .within in
+    (within, omega arith)
 
 loop-less : tie.Need-loop-less Inv-loop μ-loop
-loop-less c = search needs
+loop-less c = omega (arith, c .before .before .pass-tokens .ensures .from, c .if1 .taken, c .before .before .before .before .loop-test .taken)
 
 loop-again : tie.Need-loop-again Inv-loop μ-loop
 loop-again c =
-    let at-start = c .before .before .before .before .before .before .before .before .before .before .before in
-    let edition = at-start .args .edition in
-    let bytes = now (at-start .args .bytes) in
-    let entry = c .before .before .before .before .before .before .loop in
-    let inside = c .before .before .before .before .before .loop-test .taken in
-    let profile = c .before .before .before .before .before .before .before .before .profile-of .ensures in
-    let usable = c .before .before .before .before .before .before .before .usable-of .ensures in
-    let read = c .before .before .before .before .fields-at in
-    let passed = c .before .before .pass in
-    let step = passed .ensures (c .before .if1 .taken) edition (stageOf bytes) profile usable (topOf (entry .state)) refl (entry .token) in (
-      omega arith,
-      pass-valid edition bytes (at-start .pre) (entry .state) (entry .inv .1) (entry .token) inside (read .result) (read .ensures) (passed .result .current) step,
-      ap (answerOf bytes)
-          (sym (pass-goes-on edition bytes (at-start .pre) (entry .state) (entry .inv .1) (entry .token) inside (read .result) (read .ensures) (passed .result .current) step))
-          ∙ entry .inv .2,
-    )
+    let a = c .before .before .before .before .before .before .before .before .before .before .args in
+    let edition = a .edition in
+    let bytes = now (a .bytes) in
+    let entry = c .before .before .before .before .before .loop in
+    let run = c .before .before .pass-tokens in
+    let profile = c .before .before .before .before .before .before .before .profile-of in
+    let usable = c .before .before .before .before .before .before .usable-of in
+    let at = after-run edition bytes (entry .state) (entry .token) (entry .inv) (profile .result) (profile .ensures) (usable .result) (usable .ensures) (run .result) (run .ensures) in
+    at
 
-slot-requires : tie.Need-slot-requires Inv-loop μ-loop
-slot-requires c κs = search needs
+fields-at-requires : tie.Need-fields-at-requires Inv-loop μ-loop
+fields-at-requires c κs =
+    let inside = c .if1 .left in
+    omega arith
 
-mul-innermost : tie.Need-mul-innermost Inv-loop μ-loop
-mul-innermost c = search needs
+cast-number : tie.Need-cast-number Inv-loop μ-loop
+cast-number c =
+    let small = c .before .before .before .before .before .before .before .before .before .before .before .pre .1 in
+    let inside = c .before .if1 .left in
+    search (needs, small, inside)
 
-element-copy-out-innermost : tie.Need-element-copy-out-innermost Inv-loop μ-loop
-element-copy-out-innermost c = search needs
+add-token : tie.Need-add-token Inv-loop μ-loop
+add-token c = search needs
 
-copied-requires : tie.Need-copied-requires Inv-loop μ-loop
-copied-requires c κs = search needs
+known-branch-requires : tie.Need-known-branch-requires Inv-loop μ-loop
+known-branch-requires c κs = search needs
 
-new-requires : tie.Need-new-requires Inv-loop μ-loop
-new-requires c κs = search needs
+enum-told : tie.Need-enum-told Inv-loop μ-loop
+enum-told c = search needs
 
--- a profile that was looked up is that of its own edition and stage
-of-profile : (p : Profile) (edition stage : ℕ) → p ≡ profileOf edition stage → p ≡ profileOf (p .edition) (p .stage)
-of-profile p edition stage e = e ∙ ap (λ q. profileOf (q .edition) (q .stage)) (sym e)
-
-step-requires : tie.Need-step-requires Inv-loop μ-loop
-step-requires c κs =
-    let profile = c .before .before .before .before .before .before .before .before .before .before .before .profile-of in
-    (of-profile (profile .result) _ _ (profile .ensures), c .before .before .before .before .before .before .before .before .before .before .usable-of .ensures)
-
--- the top that the code takes
-abbrev topWith : State → Branch → Top
-topWith st branch = record { current = st .current; depth = st .depth; branch = branch }
-
-abbrev topAt : State → ℕ → Top
-topAt st slot = topWith st (getD (st .branches) slot blankBranch)
-
--- the state that it goes on with
-abbrev stateAt : State → Top → ℕ → Branch → State
-stateAt st top slot branch = record { current = top .current; depth = top .depth; branches = set (st .branches) slot branch }
-
-returns : tie.Need-returns Inv-loop μ-loop
-returns c =
-    let at-start = c .before .before .before .before .before .before .before .before .before .before .before .before .before .before .before .before .before .before in
-    let entry = c .before .before .before .before .before .before .before .before .before .before .before .before .before .loop in
-    let read = c .before .before .before .before .before .before .before .before .before .before .before .fields-at in
-    let top = c .before .before .before .before .new .ensures ∙ ap (topWith (entry .state)) (c .before .before .before .before .before .copied .ensures) ∙ ap (topAt (entry .state)) (c .before .before .before .before .before .before .before .slot .ensures .0) in
-    sym
-    (stops
-    (at-start .args .edition)
-    (now (at-start .args .bytes))
-    (at-start .pre)
-    (entry .state)
-    (entry .inv .1)
-    (entry .token)
-    (c .before .before .before .before .before .before .before .before .before .before .before .before .loop-test .taken)
-    _
-    (c .before .before .before .before .before .before .before .before .before .before .before .before .before .before .before .profile-of .ensures)
-    (read .result)
-    (read .ensures)
-    _
-    top
-    _
-    (c .before .before .before .step .ensures)
-    (c .if2 .taken))
-    ∙ entry .inv .2
-
-copied-requires-2 : tie.Need-copied-requires-2 Inv-loop μ-loop
-copied-requires-2 c κs = search needs
-
-slot-after-requires : tie.Need-slot-after-requires Inv-loop μ-loop
-slot-after-requires c κs = search needs
-
-mul-branch : tie.Need-mul-branch Inv-loop μ-loop
-mul-branch c = search needs
-
-element-set-from-branch : tie.Need-element-set-from-branch Inv-loop μ-loop
-element-set-from-branch c = search needs
-
-add-token-2 : tie.Need-add-token-2 Inv-loop μ-loop
-add-token-2 c =
-    let h : c .before .before .before .before .before .before .before .before .before .before .before .before .before .before .before .before .before .before .loop .token + 1 < 2 ^ 64 = search (needs, c .before .before .before .before .before .before .before .before .before .before .before .before .before .before .before .before .before .loop-test .taken, c .before .before .before .before .before .before .before .before .before .before .before .before .before .before .before .before .before .before .before .before .before .before .before .good) in
-    record { fits = h }
+opened-requires : tie.Need-opened-requires Inv-loop μ-loop
+opened-requires c κs = search needs
 
 loop-less-2 : tie.Need-loop-less-2 Inv-loop μ-loop
-loop-less-2 c = omega (arith, c .before .before .before .before .before .before .before .before .before .before .before .before .before .before .before .before .before .loop-test .taken)
+loop-less-2 c = omega (arith, c .before .before .before .before .before .before .before .before .pass-tokens .ensures .from, c .before .before .before .before .before .before .before .before .before .before .loop-test .taken, c .before .before .before .before .before .before .if1 .left)
 
 loop-again-2 : tie.Need-loop-again-2 Inv-loop μ-loop
 loop-again-2 c =
-    let at-start = c .before .before .before .before .before .before .before .before .before .before .before .before .before .before .before .before .before .before .before .before .before .before .before in
-    let edition = at-start .args .edition in
-    let bytes = now (at-start .args .bytes) in
-    let entry = c .before .before .before .before .before .before .before .before .before .before .before .before .before .before .before .before .before .before .loop in
-    let inside = c .before .before .before .before .before .before .before .before .before .before .before .before .before .before .before .before .before .loop-test .taken in
-    let profile = c .before .before .before .before .before .before .before .before .before .before .before .before .before .before .before .before .before .before .before .before .profile-of in
-    let read = c .before .before .before .before .before .before .before .before .before .before .before .before .before .before .before .before .fields-at in
-    let top = c .before .before .before .before .before .before .before .before .before .new .ensures ∙ ap (topWith (entry .state)) (c .before .before .before .before .before .before .before .before .before .before .copied .ensures) ∙ ap (topAt (entry .state)) (c .before .before .before .before .before .before .before .before .before .before .before .before .slot .ensures .0) in
-    let step = c .before .before .before .before .before .before .before .before .step in
-    let next : State = stateAt (entry .state) (step .result .top) (c .slot-after .result) (c .before .copied2 .result) in
-    let put = ap₂ (stateAt (entry .state) (step .result .top)) (c .slot-after .ensures .0) (c .before .copied2 .ensures) in (
-      omega arith,
-      turn-valid edition bytes (at-start .pre) (entry .state) (entry .inv .1) (entry .token) inside _ (profile .ensures) (read .result) (read .ensures) _ top _ (step .ensures) next put,
-      ap (answerOf bytes)
-          (sym
-          (goes-on edition bytes (at-start .pre) (entry .state) (entry .inv .1) (entry .token) inside _ (profile .ensures) (read .result) (read .ensures) _ top _ (step .ensures) next put
-          (c .before .before .before .before .before .if2 .left)))
-          ∙ entry .inv .2,
-    )
+    let a = c .before .before .before .before .before .before .before .before .before .before .before .before .before .before .before .before .args in
+    let edition = a .edition in
+    let bytes = now (a .bytes) in
+    let entry = c .before .before .before .before .before .before .before .before .before .before .before .loop in
+    let run = c .before .before .before .before .before .before .before .before .pass-tokens in
+    let profile = c .before .before .before .before .before .before .before .before .before .before .before .before .before .profile-of in
+    let usable = c .before .before .before .before .before .before .before .before .before .before .before .before .usable-of in
+    let at = after-run edition bytes (entry .state) (entry .token) (entry .inv) (profile .result) (profile .ensures) (usable .result) (usable .ensures) (run .result) (run .ensures) in
+    let read = c .before .before .before .before .before .fields-at in
+    let known = c .before .before .before .known-branch in
+    let made = c .opened .ensures in
+    after-branch edition bytes (withCurrent (entry .state) (run .result .current)) (run .result .token) at (profile .result) (profile .ensures) (usable .result) (usable .ensures) (c .before .before .before .before .before .before .if1 .left) (read .result) (read .ensures)
+    (known .result) Opener (known .ensures) (c .before .enum-told .given .1) (c .opened .result) (ap (λ s. s .fault) made) (λ r e. e ∙ sym made)
 
-slot-requires-2 : tie.Need-slot-requires-2 Inv-loop μ-loop
-slot-requires-2 c κs = search needs
+enum-told-2 : tie.Need-enum-told-2 Inv-loop μ-loop
+enum-told-2 c = search needs
 
-mul-innermost-2 : tie.Need-mul-innermost-2 Inv-loop μ-loop
-mul-innermost-2 c = search needs
+exchanged-requires : tie.Need-exchanged-requires Inv-loop μ-loop
+exchanged-requires c κs = search needs
 
-element-copy-out-innermost-2 : tie.Need-element-copy-out-innermost-2 Inv-loop μ-loop
-element-copy-out-innermost-2 c = search needs
+loop-less-3 : tie.Need-loop-less-3 Inv-loop μ-loop
+loop-less-3 c = omega (arith, c .before .before .before .before .before .before .before .before .pass-tokens .ensures .from, c .before .before .before .before .before .before .before .before .before .before .loop-test .taken, c .before .before .before .before .before .before .if1 .left)
+
+loop-again-3 : tie.Need-loop-again-3 Inv-loop μ-loop
+loop-again-3 c =
+    let a = c .before .before .before .before .before .before .before .before .before .before .before .before .before .before .before .before .args in
+    let edition = a .edition in
+    let bytes = now (a .bytes) in
+    let entry = c .before .before .before .before .before .before .before .before .before .before .before .loop in
+    let run = c .before .before .before .before .before .before .before .before .pass-tokens in
+    let profile = c .before .before .before .before .before .before .before .before .before .before .before .before .before .profile-of in
+    let usable = c .before .before .before .before .before .before .before .before .before .before .before .before .usable-of in
+    let at = after-run edition bytes (entry .state) (entry .token) (entry .inv) (profile .result) (profile .ensures) (usable .result) (usable .ensures) (run .result) (run .ensures) in
+    let read = c .before .before .before .before .before .fields-at in
+    let known = c .before .before .before .known-branch in
+    let made = c .exchanged .ensures in
+    after-branch edition bytes (withCurrent (entry .state) (run .result .current)) (run .result .token) at (profile .result) (profile .ensures) (usable .result) (usable .ensures) (c .before .before .before .before .before .before .if1 .left) (read .result) (read .ensures)
+    (known .result) Els (known .ensures) (c .before .enum-told2 .given .1) (c .exchanged .result) (ap (λ s. s .fault) made) (λ r e. e ∙ sym made)
+
+enum-told-3 : tie.Need-enum-told-3 Inv-loop μ-loop
+enum-told-3 c = search needs
+
+joined-requires : tie.Need-joined-requires Inv-loop μ-loop
+joined-requires c κs = search needs
+
+loop-less-4 : tie.Need-loop-less-4 Inv-loop μ-loop
+loop-less-4 c = omega (arith, c .before .before .before .before .before .before .before .before .pass-tokens .ensures .from, c .before .before .before .before .before .before .before .before .before .before .loop-test .taken, c .before .before .before .before .before .before .if1 .left)
+
+loop-again-4 : tie.Need-loop-again-4 Inv-loop μ-loop
+loop-again-4 c =
+    let a = c .before .before .before .before .before .before .before .before .before .before .before .before .before .before .before .before .args in
+    let edition = a .edition in
+    let bytes = now (a .bytes) in
+    let entry = c .before .before .before .before .before .before .before .before .before .before .before .loop in
+    let run = c .before .before .before .before .before .before .before .before .pass-tokens in
+    let profile = c .before .before .before .before .before .before .before .before .before .before .before .before .before .profile-of in
+    let usable = c .before .before .before .before .before .before .before .before .before .before .before .before .usable-of in
+    let at = after-run edition bytes (entry .state) (entry .token) (entry .inv) (profile .result) (profile .ensures) (usable .result) (usable .ensures) (run .result) (run .ensures) in
+    let read = c .before .before .before .before .before .fields-at in
+    let known = c .before .before .before .known-branch in
+    let made = c .joined .ensures in
+    after-branch edition bytes (withCurrent (entry .state) (run .result .current)) (run .result .token) at (profile .result) (profile .ensures) (usable .result) (usable .ensures) (c .before .before .before .before .before .before .if1 .left) (read .result) (read .ensures)
+    (known .result) Eif (known .ensures) (c .before .enum-told3 .given .1) (c .joined .result) (ap (λ s. s .fault) made) (λ r e. e ∙ sym made)
+
+enum-told-4 : tie.Need-enum-told-4 Inv-loop μ-loop
+enum-told-4 c = search needs
+
+step-requires : tie.Need-step-requires Inv-loop μ-loop
+step-requires c κs = search needs
+
+returns : tie.Need-returns Inv-loop μ-loop
+returns c =
+    let a = c .before .before .before .before .before .before .before .before .before .before .before .before .before .before .before .before .before .before .before .args in
+    let edition = a .edition in
+    let bytes = now (a .bytes) in
+    let entry = c .before .before .before .before .before .before .before .before .before .before .before .before .before .before .loop in
+    let run = c .before .before .before .before .before .before .before .before .before .before .before .pass-tokens in
+    let profile = c .before .before .before .before .before .before .before .before .before .before .before .before .before .before .before .before .profile-of in
+    let usable = c .before .before .before .before .before .before .before .before .before .before .before .before .before .before .before .usable-of in
+    let at = after-run edition bytes (entry .state) (entry .token) (entry .inv) (profile .result) (profile .ensures) (usable .result) (usable .ensures) (run .result) (run .ensures) in
+    let read = c .before .before .before .before .before .before .before .before .fields-at in
+    let step = c .before .before .before .step in
+    refused-at edition bytes (withCurrent (entry .state) (run .result .current)) (run .result .token) at (profile .result) (profile .ensures) (usable .result) (usable .ensures) (c .before .before .before .before .before .before .before .before .before .if1 .left) (read .result) (read .ensures)
+    (step .result) (step .ensures) (c .if2 .taken)
+
+loop-less-5 : tie.Need-loop-less-5 Inv-loop μ-loop
+loop-less-5 c = omega (arith, c .before .before .before .before .before .before .before .before .before .before .before .pass-tokens .ensures .from, c .before .before .before .before .before .before .before .before .before .before .before .before .before .loop-test .taken, c .before .before .before .before .before .before .before .before .before .if1 .left)
+
+loop-again-5 : tie.Need-loop-again-5 Inv-loop μ-loop
+loop-again-5 c =
+    let a = c .before .before .before .before .before .before .before .before .before .before .before .before .before .before .before .before .before .before .before .args in
+    let edition = a .edition in
+    let bytes = now (a .bytes) in
+    let entry = c .before .before .before .before .before .before .before .before .before .before .before .before .before .before .loop in
+    let run = c .before .before .before .before .before .before .before .before .before .before .before .pass-tokens in
+    let profile = c .before .before .before .before .before .before .before .before .before .before .before .before .before .before .before .before .profile-of in
+    let usable = c .before .before .before .before .before .before .before .before .before .before .before .before .before .before .before .usable-of in
+    let at = after-run edition bytes (entry .state) (entry .token) (entry .inv) (profile .result) (profile .ensures) (usable .result) (usable .ensures) (run .result) (run .ensures) in
+    let read = c .before .before .before .before .before .before .before .before .fields-at in
+    let step = c .before .before .before .step in
+    after-step edition bytes (withCurrent (entry .state) (run .result .current)) (run .result .token) at (profile .result) (profile .ensures) (usable .result) (usable .ensures) (c .before .before .before .before .before .before .before .before .before .if1 .left) (read .result) (read .ensures)
+    (step .result) (step .ensures) (c .if2 .left)
 
 finish-requires : tie.Need-finish-requires Inv-loop μ-loop
 finish-requires c κs = search needs
 
 returns-2 : tie.Need-returns-2 Inv-loop μ-loop
 returns-2 c =
-    let at-start = c .before .before .before .before .before .before .before .before .before in
-    let edition = at-start .args .edition in
-    let bytes = now (at-start .args .bytes) in
-    let entry = c .before .before .before .before .loop in
-    let none-left : left bytes (entry .token) ≡ 0 = omega arith in
-    c .finish .ensures
-    ∙ ap (λ i. finishOf (entry .state .depth) (getD (entry .state .branches) i blankBranch .opener) (stageOf bytes) (tokenCount bytes)) (c .before .before .slot2 .ensures .0)
-    ∙ sym (ends edition bytes (entry .state) (entry .inv .1) (entry .token))
-    ∙ ap (λ k. answerOf bytes (answerFrom edition bytes (entry .state) (entry .token) k)) (sym none-left)
-    ∙ entry .inv .2
+    let a = c .before .before .before .before .before .before .before .args in
+    let entry = c .before .before .loop in
+    c .finish .ensures ∙ reached-last (a .edition) (now (a .bytes)) (entry .state) (entry .token) (entry .inv) (omega (arith, c .before .loop-test .left))
 
 pub check-tokens-spec : {M : Type 1} → statement M
 check-tokens-spec =
@@ -220,27 +207,29 @@ check-tokens-spec =
     profile-of-requires
     usable-of-requires
     loop-holds
-    fields-at-requires
-    pass-requires
-    add-token
+    pass-tokens-requires
     loop-less
     loop-again
-    slot-requires
-    mul-innermost
-    element-copy-out-innermost
-    copied-requires
-    new-requires
-    step-requires
-    returns
-    copied-requires-2
-    slot-after-requires
-    mul-branch
-    element-set-from-branch
-    add-token-2
+    fields-at-requires
+    cast-number
+    add-token
+    known-branch-requires
+    enum-told
+    opened-requires
     loop-less-2
     loop-again-2
-    slot-requires-2
-    mul-innermost-2
-    element-copy-out-innermost-2
+    enum-told-2
+    exchanged-requires
+    loop-less-3
+    loop-again-3
+    enum-told-3
+    joined-requires
+    loop-less-4
+    loop-again-4
+    enum-told-4
+    step-requires
+    returns
+    loop-less-5
+    loop-again-5
     finish-requires
     returns-2)

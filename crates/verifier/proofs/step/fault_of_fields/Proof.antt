@@ -1,25 +1,13 @@
 -- `fault_of_fields` meets its contract.
 -- Assumes nothing.
 use mathlib.Core.Bool.{true, false}
-use mathlib.Core.Path.{_≡_, _∙_, sym}
+use mathlib.Core.Path.{_≡_}
 use Rattle.layout.specs.Opcodes.{shapeOf}
 use Rattle.bytecode.specs.Decode.{isClean}
 use Rattle.verifier.specs.Step.{faultOfFields}
-use Rattle.verifier.proofs.PassLaw.{branch-faultless}
 use borrow.Author.Needs.{needs}
 use Rattle.verifier.proofs.step.fault_of_fields.Statement.{statement}
 use Rattle.verifier.proofs.step.fault_of_fields.Tie as tie
-
-is-plain-branch-requires : tie.Need-is-plain-branch-requires
-is-plain-branch-requires c κs = search needs
-
-refusal-requires : tie.Need-refusal-requires
-refusal-requires c κs = search needs
-
-returns : tie.Need-returns
-returns c = let a = c .before .before .before in
-    c .refusal .ensures
-    ∙ sym (branch-faultless (a .args .profile) (a .args .usable) (a .args .f) (a .pre .0) (a .pre .1 .0) (sym (c .before .before .is-plain-branch .ensures) ∙ c .before .if1 .taken) (a .args .token))
 
 is-clean-requires : tie.Need-is-clean-requires
 is-clean-requires c κs = search needs
@@ -27,12 +15,12 @@ is-clean-requires c κs = search needs
 own-fault-requires : tie.Need-own-fault-requires
 own-fault-requires c κs = search needs
 
-returns-2 : tie.Need-returns-2
+returns : tie.Need-returns
 unfolding faultOfFields
-returns-2 c =
-    let a = c .before .before .before .before .before in
-    let k = a .pre .1 .1 in
-    let q : isClean (shapeOf (a .args .f .opcode)) (a .args .f) ≡ true = cc (k, c .before .before .is-clean .ensures, c .before .if2 .taken) in
+returns c =
+    let a = c .before .before .before in
+    let k = a .pre in
+    let q : isClean (shapeOf (a .args .f .opcode)) (a .args .f) ≡ true = cc (k, c .before .before .is-clean .ensures, c .before .if1 .taken) in
     simp (c .own-fault .ensures, k, q)
 
 fault-of-requires : tie.Need-fault-of-requires
@@ -41,24 +29,21 @@ fault-of-requires c κs = search needs
 undecoded-fault-requires : tie.Need-undecoded-fault-requires
 undecoded-fault-requires c κs = search needs
 
-returns-3 : tie.Need-returns-3
+returns-2 : tie.Need-returns-2
 unfolding faultOfFields
-returns-3 c =
-    let a = c .before .before .before .before .before .before in
-    let k = a .pre .1 .1 in
-    let q : isClean (shapeOf (a .args .f .opcode)) (a .args .f) ≡ false = cc (k, c .before .before .before .is-clean .ensures, c .before .before .if2 .left) in
+returns-2 c =
+    let a = c .before .before .before .before in
+    let k = a .pre in
+    let q : isClean (shapeOf (a .args .f .opcode)) (a .args .f) ≡ false = cc (k, c .before .before .before .is-clean .ensures, c .before .before .if1 .left) in
     simp (c .undecoded-fault .ensures, c .before .fault-of .ensures, k, q)
 
 pub fault-of-fields-spec : {M : Type 1} → statement M
 fault-of-fields-spec =
     tie.close
     (tie.spec
-    is-plain-branch-requires
-    refusal-requires
-    returns
     is-clean-requires
     own-fault-requires
-    returns-2
+    returns
     fault-of-requires
     undecoded-fault-requires
-    returns-3)
+    returns-2)

@@ -1,0 +1,142 @@
+// Tokens that are passed at a glance: a few tests tell that a token has no fault, and what it does to the state. Most tokens pass; the others
+// are judged rule by rule.
+ghost use mathlib.Core.Bool.{true, false};
+ghost use mathlib.Core.Path.{_≡_};
+ghost use Prim.Native.Nat.{_*_, _+_, _≤_};
+ghost use lib.ListN.{length};
+ghost use Rattle.verifier.specs.Glance.{Passes, passedUnless, RunsOver, opensUnwritten, KnownBranch};
+use crate::places;
+use crate::state;
+use components::plain;
+use components::written::Written;
+use faults::plain::Usable;
+use faults::profile::Profile;
+use layout::fields::Fields;
+use layout::opcodes;
+use layout::opcodes::Flow;
+
+// Whether a token is known to have no fault, and then the set after it.
+pub struct Passed {
+    pub known: bool,
+    pub current: Written,
+}
+
+// The set at hand after a run of tokens, and the number of the token after them.
+pub struct Run {
+    pub current: Written,
+    pub token: usize,
+}
+
+// Passes tokens that are no branches, one after the other, as long as each is known to have no fault. They leave branches alone, so the set
+// at hand is all of the state that they touch.
+pub(crate) fn pass_tokens(
+    profile: Profile,
+    usable: Usable,
+    from: Written,
+    bytes: &[u8],
+    first: usize,
+    count: usize,
+) -> Run
+    requires { ⌜ first ≤ count ⌝ }
+    requires { ⌜ 7 + count * 24 ≤ length (now bytes) ⌝ }
+    ensures { λ r. ⌜ RunsOver profile usable from (now (bytes .entry)) first count r ⌝ }
+{
+    let mut current = from;
+    let mut token = first;
+    while token < count {
+        let f = places::fields_at(bytes, token);
+        let passed = pass(profile, usable, current, f);
+        if !passed.known {
+            return Run { current, token };
+        }
+        let next = passed.current;
+        current = next;
+        token += 1;
+    }
+    Run { current, token }
+}
+
+fn pass(profile: Profile, usable: Usable, current: Written, f: Fields) -> Passed
+    ensures { λ r. ⌜ (r .known ≡ true → Passes profile usable current f (r .current)) ⌝ }
+{
+    // Branches end a run; they are told first, since none of the tests below passes them.
+    if (0x1c <= f.opcode) & (f.opcode < 0x22) {
+        return unknown(current);
+    }
+    // D is the same bit of both fields, so one test asks for both. Of a sampler it is a bit of the filter, which no right sampler has set.
+    if layout::is_indexed(f.source1 | f.source2) {
+        if faults::is_plain_indexed(usable, f) {
+            return passed_unless(plain::indexed_unwritten(current, f), current, f);
+        }
+        return unknown(current);
+    }
+    if faults::is_plain(usable, f) {
+        return passed_unless(plain::plain_unwritten(current, f), current, f);
+    }
+    if faults::is_plain_matrix(usable, f) {
+        return passed_unless(plain::matrix_unwritten(current, f), current, f);
+    }
+    if faults::is_plain_tex(profile, usable, f) {
+        return passed_unless(plain::tex_unwritten(current, f), current, f);
+    }
+    unknown(current)
+}
+
+fn unknown(current: Written) -> Passed
+    ensures { λ r. ⌜ r ≡ record { known = false; current = current } ⌝ }
+{
+    Passed {
+        known: false,
+        current,
+    }
+}
+
+// A plain token is passed unless it may read what is not written.
+fn passed_unless(unwritten: bool, current: Written, f: Fields) -> Passed
+    ensures { λ r. ⌜ r ≡ passedUnless unwritten current f ⌝ }
+{
+    if unwritten {
+        return unknown(current);
+    }
+    let next = state::written_by(current, layout::unpack_register(f.destination));
+    Passed {
+        known: true,
+        current: next,
+    }
+}
+
+// What a token of a branch does to the state, where it is known to have no fault; Plain where that is not known, or it is no branch.
+pub(crate) fn known_branch(
+    profile: Profile,
+    usable: Usable,
+    depth: usize,
+    els_met: u8,
+    current: Written,
+    f: Fields,
+) -> Flow
+    ensures { λ r. ⌜ KnownBranch profile usable depth «els_met» current f r ⌝ }
+{
+    if !faults::is_plain_branch(profile, usable, f) {
+        return Flow::Plain;
+    }
+    let flow = opcodes::flow_of(f.opcode);
+    if state::is_misplaced(flow, depth, els_met) {
+        return Flow::Plain;
+    }
+    if reads_unwritten(flow, current, f) {
+        return Flow::Plain;
+    }
+    flow
+}
+
+// Whether the token of a branch that has no fault of its own reads what is not written. Openers alone read.
+fn reads_unwritten(flow: Flow, current: Written, f: Fields) -> bool
+    ensures { λ r. ⌜ r ≡ opensUnwritten flow current f ⌝ }
+{
+    match flow {
+        Flow::Plain => false,
+        Flow::Opener => plain::opener_unwritten(current, f),
+        Flow::Els => false,
+        Flow::Eif => false,
+    }
+}
