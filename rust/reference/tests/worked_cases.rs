@@ -140,14 +140,32 @@ fn index_registers_are_read() {
     assert_eq!(check_vertex(1, &[mov]), accepted(VERTEX, 1));
 }
 
+/// nrm, crs, dp3 and m33 read by three selectors, dp4, m34 and m44 by four, whatever the mask.
 #[test]
-fn crs_reads_by_three_selectors() {
-    let only_x = token(0x00, (2, 0, X), direct(1, 0, E4), 0);
-    let crs = |a, b| token(0x11, (3, 0, X), direct(a, 0, E4), direct(b, 0, E4));
-    assert_eq!(check_vertex(1, &[only_x, crs(1, 2)]), refused(21, 1, 3));
-    assert_eq!(check_vertex(1, &[only_x, crs(2, 1)]), refused(21, 1, 2));
-    let xyz = token(0x00, (2, 0, XYZ), direct(1, 0, E4), 0);
-    assert_eq!(check_vertex(1, &[xyz, crs(2, 2)]), accepted(VERTEX, 2));
+fn selectors_that_no_mask_chooses() {
+    let write = |mask| token(0x00, (2, 0, mask), direct(1, 0, E4), 0);
+    let constant = direct(1, 0, E4);
+    let opcodes = [
+        (0x0e, 0),
+        (0x11, constant),
+        (0x12, constant),
+        (0x17, constant),
+    ];
+    for (opcode, source2) in opcodes {
+        let reads = token(opcode, (3, 0, X), direct(2, 0, E4), source2);
+        assert_eq!(check_vertex(1, &[write(X), reads]), refused(21, 1, 2));
+        assert_eq!(check_vertex(1, &[write(XYZ), reads]), accepted(VERTEX, 2));
+    }
+    for opcode in [0x13, 0x18, 0x19] {
+        let reads = token(opcode, (3, 0, X), direct(2, 0, E4), constant);
+        assert_eq!(check_vertex(1, &[write(XYZ), reads]), refused(21, 1, 2));
+        assert_eq!(check_vertex(1, &[write(XYZW), reads]), accepted(VERTEX, 2));
+    }
+    for opcode in [0x11, 0x12] {
+        let reads = token(opcode, (3, 0, X), constant, direct(2, 0, E4));
+        assert_eq!(check_vertex(1, &[write(X), reads]), refused(21, 1, 3));
+        assert_eq!(check_vertex(1, &[write(XYZ), reads]), accepted(VERTEX, 2));
+    }
 }
 
 /// On one way source 1 is unwritten, on the other source 2.
@@ -206,6 +224,14 @@ fn the_order_of_faults() {
     let kil = token(0x27, (3, 0, XYZW), direct(1, 0, 0), 0);
     assert_eq!(check_vertex(1, &[kil]), refused(11, 0, 0));
     assert_eq!(check(&program(FRAGMENT, &[kil]), 1), refused(12, 0, 1));
+    // Mask 0 before a source that has a fault, source 1 before source 2, both before an unwritten one.
+    let faulty = direct(3, 0, E4);
+    let mov = token(0x00, (3, 0, 0), faulty, 0);
+    assert_eq!(check_vertex(1, &[mov]), refused(15, 0, 1));
+    let add = token(0x01, (3, 0, XYZW), faulty, indexed((3, 0, 0), 0, E4));
+    assert_eq!(check_vertex(1, &[add]), refused(17, 0, 2));
+    let add = token(0x01, (3, 0, XYZW), direct(2, 0, E4), faulty);
+    assert_eq!(check_vertex(1, &[add]), refused(17, 0, 3));
     // An index is for vertex programs, of whatever type its register is.
     for kind in [0, 1, 2] {
         let mov = token(0x00, (3, 0, XYZW), indexed((kind, 0, 0), 0, E4), 0);
