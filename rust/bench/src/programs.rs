@@ -16,7 +16,7 @@ const IDENTITY: u8 = 0xe4;
 const UNLISTED: u8 = 0x2b;
 /// So many openers that they are never the limit.
 const ANY: usize = usize::MAX;
-/// More programs of one token than a processor could learn to guess.
+/// How many different programs of one token a case has.
 const SINGLE: usize = 4_000;
 
 /// What is measured together: programs, each as an input of the listing, and how much of them is judged.
