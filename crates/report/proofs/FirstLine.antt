@@ -14,7 +14,7 @@ use Rattle.listing.specs.declared.first.FirstLine.{FirstLine}
 use Rattle.listing.specs.declared.first.FirstLine.the-variants.{Accepted, Refused, NoEdition, InputTooLong}
 use Rattle.listing.specs.declared.first.Heading.{Heading}
 use Rattle.listing.proofs.first.FirstLine.{the-type}
-use Rattle.faults.specs.Rules.{tokenCount}
+use Rattle.layout.specs.Programs.{tokenCount}
 use Rattle.report.specs.Writers.{allLines, Listed, linesAfter, HasLines, Opens, HasRoom, Puts, Measured}
 use Rattle.report.proofs.Room.{front, behind, in-turn, add-lengths}
 

@@ -14,7 +14,7 @@ use Rattle.paths.specs.Nesting.{Branch, branchesAfter, misplaced}
 use Rattle.paths.specs.Faults.{Answer, accepted, refused}
 use Rattle.paths.specs.Check as check
 use Rattle.paths.specs.Check.{lacks, setBefore, judge, ending, nextState, checkFrom, start, verdictOf}
-use Rattle.faults.specs.Rules.{tokenCount}
+use Rattle.layout.specs.Programs.{tokenCount}
 use Rattle.faults.specs.Order.{firstFault, headerRules, tokensFrom, tokensOf}
 use Rattle.verifier.specs.Verdict.{answerOf, afterHeader, verdict}
 use Rattle.verifier.specs.declared.answers.Checked.{Checked}

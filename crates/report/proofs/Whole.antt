@@ -16,7 +16,7 @@ use Rattle.listing.specs.Printing.{Prints}
 use Rattle.listing.specs.declared.answers.Printed.{Printed}
 use Rattle.listing.specs.declared.first.FirstLine.{FirstLine}
 use Rattle.listing.specs.declared.first.FirstLine.the-variants.{Accepted as AcceptedLine, Refused as RefusedLine, NoEdition, InputTooLong}
-use Rattle.faults.specs.Rules.{tokenCount}
+use Rattle.layout.specs.Programs.{tokenCount}
 use Rattle.verifier.specs.Verdict.{verdict}
 use Rattle.verifier.specs.declared.answers.Program.{Program}
 use Rattle.verifier.specs.declared.answers.Checked.the-variants.{Accepted, Refused}

@@ -6,7 +6,6 @@ ghost use Rattle.report.specs.Report.{Reports};
 ghost use Rattle.report.specs.Writers.{Opens, HasRoom, Measured, Fits, Puts};
 use crate::opening;
 use crate::tokens;
-use bytecode::answers::Refusal;
 use listing::answers::Printed;
 use listing::first::FirstLine;
 
@@ -16,12 +15,7 @@ pub fn report(input: &[u8], out: &mut [u8]) -> Printed
 {
     let first = opening::first_of(input);
     if !fits(out.len(), first, input) {
-        let short = Refusal {
-            number: 23,
-            token: 0,
-            part: 0,
-        };
-        return Printed::Refused(short);
+        return Printed::Refused(bytecode::refusal(23, 0, 0));
     }
     Printed::Length(put_text(out, first, input))
 }

@@ -15,7 +15,7 @@ use Rattle.paths.specs.Unwritten.{nothing}
 use Rattle.components.specs.Written.{componentSet, halfOf}
 use Rattle.paths.specs.Faults as faults
 use Rattle.paths.specs.Check.{start, ending, checkFrom, verdictOf}
-use Rattle.faults.specs.Rules.{stageOf, tokenCount}
+use Rattle.layout.specs.Programs.{stageOf, tokenCount, tokenAt}
 use Rattle.faults.specs.Profile.{profileOf}
 use Rattle.bytecode.specs.Decode.{refusal, noRefusal, isClean, tokenFault}
 use Rattle.bytecode.specs.Fields.{fieldsOf, fieldsIn}
@@ -23,7 +23,7 @@ use Rattle.layout.specs.Opcodes.{shapeOf}
 use Rattle.faults.specs.Faults.{undecodedFault}
 use Rattle.components.specs.declared.written.Written.{Written}
 use Rattle.layout.specs.declared.fields.Fields.{Fields}
-use Rattle.faults.specs.Order.{tokenAt, tokensFrom, tokensOf}
+use Rattle.faults.specs.Order.{tokensFrom, tokensOf}
 use Rattle.verifier.specs.State.{noneWritten, startState, topOf, withTop, withCurrent}
 use Rattle.verifier.specs.Step.{stepped, faultOfFields, stepOf}
 use Rattle.verifier.specs.Verdict.{answerOf, opensUnlisted}

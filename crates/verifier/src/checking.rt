@@ -4,7 +4,8 @@ ghost use Prim.Native.Nat.{_+_, _*_, _≤_};
 ghost use lib.ListN.{length};
 ghost use Rattle.paths.specs.Check.{verdictOf};
 ghost use Rattle.bytecode.specs.Fields.{fieldsOf};
-ghost use Rattle.faults.specs.Order.{tokenAt, tokensOf};
+ghost use Rattle.layout.specs.Programs.{tokenAt};
+ghost use Rattle.faults.specs.Order.{tokensOf};
 ghost use Rattle.verifier.specs.Verdict.{answerOf, opensUnlisted};
 ghost use Rattle.verifier.specs.Finish.{finishOf};
 ghost use Rattle.verifier.specs.Exact.{Checks};
@@ -25,7 +26,7 @@ pub fn check(edition: u32, bytes: &[u8]) -> Checked
         return Checked::Refused(fault);
     }
     if opens_unlisted(bytes) {
-        return Checked::Refused(faults::refusal(9, 0, 0));
+        return Checked::Refused(bytecode::refusal(9, 0, 0));
     }
     check_tokens(edition, bytes)
 }
@@ -102,5 +103,5 @@ fn finish(depth: usize, opener: usize, stage: u8, tokens: usize) -> Checked
     if depth == 0 {
         return Checked::Accepted(Program { stage, tokens });
     }
-    Checked::Refused(faults::refusal(22, opener, 0))
+    Checked::Refused(bytecode::refusal(22, opener, 0))
 }

@@ -41,20 +41,20 @@ impl Top {
     {
         let flow = opcodes::flow_of(f.opcode);
         if self.is_misplaced(flow) {
-            let fault = faults::refusal(20, token, 0);
+            let fault = bytecode::refusal(20, token, 0);
             return Stepped { fault, top: self };
         }
         let met = self.met(flow);
         let current = met.current;
         if access::reads_unwritten1(current, shape, f) {
-            let fault = faults::refusal(21, token, 2);
+            let fault = bytecode::refusal(21, token, 2);
             return Stepped { fault, top: self };
         }
         if access::reads_unwritten2(current, shape, f) {
-            let fault = faults::refusal(21, token, 3);
+            let fault = bytecode::refusal(21, token, 3);
             return Stepped { fault, top: self };
         }
-        let fault = faults::refusal(0, 0, 0);
+        let fault = bytecode::refusal(0, 0, 0);
         let next = met.wrote(shape.destination, f.destination)
             .parted(flow, token);
         Stepped { fault, top: next }
@@ -75,7 +75,7 @@ fn fault_of_fields(
     ensures { λ r. ⌜ r ≡ faultOfFields profile token f ⌝ }
 {
     if faults::is_plain_branch(profile, usable, f) {
-        return faults::refusal(0, 0, 0);
+        return bytecode::refusal(0, 0, 0);
     }
     if bytecode::is_clean(shape, f) {
         return faults::own_fault(profile, token, shape, f);

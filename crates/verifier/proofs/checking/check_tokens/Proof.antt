@@ -7,7 +7,7 @@ use borrow.Author.Needs.{needs}
 use lib.ListN.{getD, set}
 use denote.Ref.{now}
 use Rattle.paths.specs.Check.{verdictOf}
-use Rattle.faults.specs.Rules.{stageOf, tokenCount}
+use Rattle.layout.specs.Programs.{stageOf, tokenCount}
 use Rattle.faults.specs.Order.{tokensOf}
 use Rattle.faults.specs.Profile.{profileOf}
 use Rattle.faults.specs.declared.profile.Profile.{Profile}
