@@ -12,8 +12,8 @@ use Rattle.layout.specs.declared.record.Token.{Token}
 use Rattle.bytecode.specs.declared.answers.Refusal.{Refusal}
 use Rattle.bytecode.specs.declared.answers.Decoded.the-variants.{Token as Accepted, Refused}
 use Rattle.bytecode.proofs.DecodeLaws.{accepted}
-use Rattle.faults.specs.Order.{tokenAt}
-use Rattle.reader.specs.Reading.{tokenStart, standsAt, readOf, placeAfter}
+use Rattle.layout.specs.Programs.{tokenAt, tokenStart}
+use Rattle.reader.specs.Reading.{standsAt, readOf, placeAfter}
 use Rattle.reader.specs.Sequence.{placeAfterReads, placeOpened, HoldsTokens, ReadsInOrder, StaysRefused, RefusedOpening}
 use Rattle.reader.proofs.ReadingLaws.{too-short, none-left, one-left, moves-on, stays}
 

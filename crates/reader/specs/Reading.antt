@@ -1,6 +1,6 @@
 -- Document 01, "Token reader": what opening and each read answer, and where they leave the reader.
-use Prim.Native.Nat.{ℕ, _+_, _*_}
-use mathlib.Core.Bool.{Bool, cond}
+use Prim.Native.Nat.{ℕ, _+_}
+use mathlib.Core.Bool.{cond}
 use mathlib.Core.List.{List, []}
 use mathlib.Core.Path.{_≡_}
 use lib.Dec.{ltb, eqb}
@@ -10,7 +10,7 @@ use Rattle.bytecode.specs.Decode.{refusal, noRefusal, decodedNumbers, decodeFau
 use Rattle.bytecode.specs.declared.answers.Refusal.{Refusal}
 use Rattle.bytecode.specs.declared.answers.Decoded.{Decoded}
 use Rattle.bytecode.specs.declared.answers.Decoded.the-variants.{Token as Accepted, Refused}
-use Rattle.faults.specs.Order.{tokenAt}
+use Rattle.layout.specs.Programs.{tokenAt, noTokenLeft}
 use Rattle.reader.specs.declared.answers.TokenReader.{TokenReader}
 use Rattle.reader.specs.declared.answers.Opening.{Opening}
 use Rattle.reader.specs.declared.answers.Opening.the-variants.{Ready, Refused as NotOpened}
@@ -30,14 +30,6 @@ openingNumbers (NotOpened r) = r
 -- what opening answers
 unfoldable pub openingOf : List ℕ → Opening
 openingOf s = cond (eqb (openingFault s .number) 0) Ready (NotOpened (openingFault s))
-
--- "Then tokens of 24 bytes", after a header of 7: where a token begins
-abbrev pub tokenStart : ℕ → ℕ
-tokenStart n = 7 + n * 24
-
--- "Fewer than 24 left"
-abbrev pub noTokenLeft : List ℕ → ℕ → Bool
-noTokenLeft s n = ltb (length s) (tokenStart n + 24)
 
 -- the bytes of token n, or none where fewer than 24 are left
 unfoldable pub tokenBytes : List ℕ → ℕ → List ℕ

@@ -8,10 +8,11 @@ use Rattle.bytecode.specs.Decode.{refusal, decodeOf}
 use Rattle.layout.specs.declared.record.Token.{Token}
 use Rattle.bytecode.specs.declared.answers.Refusal.{Refusal}
 use Rattle.bytecode.specs.declared.answers.Decoded.the-variants.{Token as Accepted, Refused}
-use Rattle.faults.specs.Order.{recordOf, tokenAt}
+use Rattle.bytecode.specs.Fields.{recordOf}
+use Rattle.layout.specs.Programs.{tokenAt, tokenStart}
 use Rattle.verifier.specs.Verdict.{program, verdict}
 use Rattle.verifier.specs.declared.answers.Checked.the-variants.{Accepted as IsAccepted}
-use Rattle.reader.specs.Reading.{openingOf, tokenStart, readOf, placeAfter, Opens, Reads}
+use Rattle.reader.specs.Reading.{openingOf, readOf, placeAfter, Opens, Reads}
 use Rattle.reader.specs.declared.answers.Opening.the-variants.{Ready, Refused as NotOpened}
 use Rattle.reader.specs.declared.answers.Opened.{Opened}
 use Rattle.reader.specs.declared.answers.Read.{Read}

@@ -14,8 +14,9 @@ use Rattle.bytecode.proofs.DecodeLaws.{no-faults}
 use Rattle.registers.specs.Counts.{countOf}
 use Rattle.paths.specs.Nesting.{misplacedAt}
 use Rattle.paths.specs.Faults.{tokenFaultAt, Clean, Faultless}
-use Rattle.faults.specs.Rules.{stageOf, tokenCount}
-use Rattle.faults.specs.Order.{firstFault, headerRules, tokenRules, recordOf, tokenAt, tokensFrom, tokensOf}
+use Rattle.layout.specs.Programs.{stageOf, tokenCount, tokenAt}
+use Rattle.bytecode.specs.Fields.{recordOf}
+use Rattle.faults.specs.Order.{firstFault, headerRules, tokenRules, tokensFrom, tokensOf}
 use Rattle.verifier.specs.Verdict.{program, verdict}
 use Rattle.verifier.specs.Exact.{HeaderRight}
 use Rattle.verifier.specs.Accepted.{WholeTokens, AcceptedDecodes}

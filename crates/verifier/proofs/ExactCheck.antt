@@ -13,8 +13,8 @@ use Rattle.paths.specs.Faults.{Answer, accepted, refused, TokenFaultsNumbered}
 use Rattle.paths.specs.Check.{verdictOf}
 use Rattle.paths.proofs.ExactVerdict.{exact}
 use Rattle.paths.proofs.PathDemand.{demand3}
-use Rattle.faults.specs.Rules.{stageOf, tokenCount}
-use Rattle.faults.specs.Order.{firstFault, headerRules, tokenAt, tokensFrom, tokensOf}
+use Rattle.layout.specs.Programs.{stageOf, tokenCount, tokenAt}
+use Rattle.faults.specs.Order.{firstFault, headerRules, tokensFrom, tokensOf}
 use Rattle.verifier.specs.Verdict.{program, answerOf, afterHeader, verdict, checkedNumbers}
 use Rattle.verifier.specs.Exact.{Exact, Demand3, Checks}
 use Rattle.verifier.specs.declared.answers.Checked.{Checked}

@@ -16,10 +16,10 @@ use Rattle.layout.specs.declared.opcodes.Flow.the-variants.{Plain, Opener, Els,
 use Rattle.layout.specs.declared.record.Destination.the-variants.{Unused as NoDestination}
 use Rattle.layout.specs.declared.record.Token.{Token}
 use Rattle.layout.proofs.OpcodeSets.{no-branch}
+use Rattle.layout.specs.Programs.{tokenAt}
 use Rattle.components.specs.Access.{lacksAccess, access1Of, access2Of, openerUnwritten}
 use Rattle.components.specs.declared.written.Written.{Written}
 use Rattle.faults.specs.Faults.{ownFault}
-use Rattle.faults.specs.Order.{tokenAt}
 use Rattle.faults.specs.Plain.{usableOf, isPlainBranch}
 use Rattle.faults.specs.Profile.{profileOf}
 use Rattle.faults.specs.declared.plain.Usable.{Usable}

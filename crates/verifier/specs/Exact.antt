@@ -10,7 +10,7 @@ use Rattle.paths.specs.Paths.{Source, Path, visited}
 use Rattle.paths.specs.Unwritten.{ReadsUnwritten}
 use Rattle.paths.specs.Nesting.{Closes}
 use Rattle.paths.specs.Faults.{Faultless, FirstFault, FirstUnwritten}
-use Rattle.faults.specs.Rules.{stageOf, tokenCount}
+use Rattle.layout.specs.Programs.{stageOf, tokenCount}
 use Rattle.faults.specs.Order.{firstFault, headerRules, tokensOf}
 use Rattle.verifier.specs.Verdict.{program, verdict, checkedNumbers}
 use Rattle.verifier.specs.declared.answers.Checked.{Checked}

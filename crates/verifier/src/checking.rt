@@ -2,7 +2,7 @@
 ghost use mathlib.Core.Path.{_≡_};
 ghost use Prim.Native.Nat.{_<_, _≤_};
 ghost use lib.ListN.{length};
-ghost use Rattle.faults.specs.Rules.{tokenCount};
+ghost use Rattle.layout.specs.Programs.{tokenCount};
 ghost use Rattle.verifier.specs.Verdict.{opensUnlisted};
 ghost use Rattle.verifier.specs.Steps.{finishOf, judgedBy};
 ghost use Rattle.verifier.specs.Exact.{Checks};
@@ -24,7 +24,7 @@ pub fn check(edition: u32, bytes: &[u8]) -> Checked
         return Checked::Refused(fault);
     }
     if opens_unlisted(bytes) {
-        return Checked::Refused(faults::refusal(9, 0, 0));
+        return Checked::Refused(bytecode::refusal(9, 0, 0));
     }
     check_tokens(edition, bytes)
 }
@@ -114,6 +114,6 @@ impl State {
             return Checked::Accepted(Program { stage, tokens });
         }
         let innermost = self.innermost;
-        Checked::Refused(faults::refusal(22, innermost.opener as usize, 0))
+        Checked::Refused(bytecode::refusal(22, innermost.opener as usize, 0))
     }
 }

@@ -35,15 +35,15 @@ impl State {
     {
         let flow = opcodes::flow_of(f.opcode);
         if self.is_misplaced(flow) {
-            return self.refused(faults::refusal(20, token as usize, 0));
+            return self.refused(bytecode::refusal(20, token as usize, 0));
         }
         let met = self.met(flow);
         let current = met.current;
         if access::reads_unwritten1(current, shape, f) {
-            return self.refused(faults::refusal(21, token as usize, 2));
+            return self.refused(bytecode::refusal(21, token as usize, 2));
         }
         if access::reads_unwritten2(current, shape, f) {
-            return self.refused(faults::refusal(21, token as usize, 3));
+            return self.refused(bytecode::refusal(21, token as usize, 3));
         }
         met.wrote(shape.destination, f.destination)
             .parted(flow, token)

@@ -9,7 +9,7 @@ use denote.Ref.{now}
 use Rattle.layout.specs.declared.fields.Fields.{Fields}
 use Rattle.layout.specs.declared.opcodes.Flow.{Flow}
 use Rattle.layout.specs.declared.opcodes.Flow.the-variants.{Opener, Els, Eif}
-use Rattle.faults.specs.Rules.{tokenCount}
+use Rattle.layout.specs.Programs.{tokenCount}
 use Rattle.verifier.specs.State.{withCurrent}
 use Rattle.verifier.proofs.TurnLaw.{Reached, reached-first, reached-last, after-run, after-step, after-branch, refused-at}
 use Rattle.verifier.proofs.checking.check_tokens.Statement.{statement}
