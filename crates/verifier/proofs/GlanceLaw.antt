@@ -32,6 +32,7 @@ use Rattle.verifier.specs.Step.{faultOfFields, nextOf, followOf, stepOf}
 use Rattle.verifier.specs.Steps.{stepsOver}
 use Rattle.verifier.specs.declared.glance.Passed.{Passed}
 use Rattle.verifier.specs.declared.state.State.{State}
+use Rattle.verifier.proofs.StepLaw.{byTests, follow-tests}
 use Rattle.verifier.proofs.StepsLaw.{one-more}
 
 not-plain : Opener ≡ Plain → ⊥
@@ -54,10 +55,10 @@ module _ (st : State) (sound : st .fault .number ≡ 0) (token : ℕ) where
   follow-right : (t : Token) (flow : Flow) → flowOf (t .opcode) ≡ flow → isMisplaced st flow ≡ false
       → lacksAccess (metState st flow .current) (access1Of t) ≡ false → lacksAccess (metState st flow .current) (access2Of t) ≡ false
       → followOf st token t ≡ partedState (wroteState (metState st flow) (t .destination)) flow token
-  unfolding followOf
   follow-right t flow e m a b =
-      ap (λ f. cond (isMisplaced st f) (withFault st (refusal 20 token 0)) (cond (lacksAccess (metState st f .current) (access1Of t)) (withFault st (refusal 21 token 2)) (cond (lacksAccess (metState st f .current) (access2Of t)) (withFault st (refusal 21 token 3)) (partedState (wroteState (metState st f) (t .destination)) f token)))) e
-      ∙ rw (m, a, b)
+      follow-tests st token t
+      ∙ ap (λ f. byTests st token t (isMisplaced st f) (lacksAccess (metState st f .current) (access1Of t)) (lacksAccess (metState st f .current) (access2Of t))) e
+      ∙ rw (m, a, b) (ap (λ f. partedState (wroteState (metState st f) (t .destination)) f token) e)
 
   passes : (edition stage : ℕ) (unwritten : Written → Fields → Bool) (f : Fields) → PlainToken edition stage unwritten f → unwritten (st .current) f ≡ false
       → stepOf st (profileOf edition stage) token f ≡ withCurrent st (writtenBy (st .current) (registerOf (f .destination)))
