@@ -27,8 +27,8 @@ HeaderFault edition bytes number token part =
     (firstFault (headerRules edition bytes) ≡ some (record { number = number; part = part })) × (token ≡ 0)
 
 -- "A program is accepted exactly when it meets the published format and the rules of document 01", with its stage and its token count, "the
--- length less 7, over 24". "Otherwise the answer is the first fault in the stated order, with its token and part." An answer is said by its
--- numbers, which tell a refusal by its number; so a refusal always has one of document 01's.
+-- length less 7, over 24". "Otherwise the answer is the first fault in the stated order, with its token and part." The answer is told by
+-- its numbers; a refusal's number is one of document 01's, never the 0 of an acceptance.
 pub record Exact (edition : ℕ) (bytes : List ℕ) (r : Checked) : Type 0 where
   pub accepts : (stage tokens : ℕ)
       → (checkedNumbers r ≡ acceptedNumbers stage tokens)
