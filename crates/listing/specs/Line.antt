@@ -11,6 +11,7 @@ use Rattle.listing.specs.Items.{indentation, destinationText, operandTex
 use Rattle.bytecode.specs.Encode.{isEncodable}
 use Rattle.bytecode.specs.Decode.{refusal}
 use Rattle.layout.specs.Samplers.{settingsWrong}
+use Rattle.bytecode.specs.Numbers.{foundNumbers}
 use Rattle.layout.specs.declared.record.Destination.{Destination}
 use Rattle.layout.specs.declared.record.Destination.the-variants.{Unused as NoDestination, Masked}
 use Rattle.layout.specs.declared.record.Operand.{Operand}
@@ -68,9 +69,10 @@ lineAnswer t stage depth buffer =
 unfoldable pub afterLine : Token → ℕ → ℕ → List ℕ → List ℕ
 afterLine t stage depth buffer = cond (isNameable t stage depth) (afterPrint (lineOf t stage depth) buffer) buffer
 
--- the promise of line: its answer, the answer's numbers and the buffer afterwards; and 128 bytes are room enough for every line
+-- the promise of line: its answer, the answer's numbers by the rules above, the line's length where nothing is refused, and the buffer
+-- afterwards; and 128 bytes are room enough for every line
 pub record Lists (t : Token) (stage depth : ℕ) (before after : List ℕ) (r : Printed) : Type 0 where
   pub answer : r ≡ lineAnswer t stage depth before
-  pub numbers : printedNumbers r ≡ lineFault t stage depth before
+  pub numbers : printedNumbers r ≡ foundNumbers (lineFault t stage depth before) 0 (length (lineOf t stage depth))
   pub buffer : after ≡ afterLine t stage depth before
   pub short : isNameable t stage depth ≡ true → length (lineOf t stage depth) ≤ 128
