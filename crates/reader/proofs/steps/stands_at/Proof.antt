@@ -17,7 +17,7 @@ returns : tie.Need-returns
 returns c = cc
 
 returns-2 : tie.Need-returns-2
-returns-2 c = rw (c .refused .ensures, c .before .before .answer2 .given .1)
+returns-2 c = rw (c .refusal .ensures, c .before .before .answer2 .given .1)
 
 pub stands-at-spec : {M : Type 1} → statement M
 stands-at-spec =
