@@ -31,6 +31,7 @@ use Rattle.verifier.specs.State.{misplacedAt, isMisplaced, metState, par
 use Rattle.verifier.specs.Step.{faultOfFields, nextOf, followOf, stepOf}
 use Rattle.verifier.specs.Steps.{stepsOver}
 use Rattle.verifier.specs.declared.glance.Passed.{Passed}
+use Rattle.verifier.specs.declared.state.Branch.{Branch}
 use Rattle.verifier.specs.declared.state.State.{State}
 use Rattle.verifier.proofs.StepLaw.{byTests, follow-tests}
 use Rattle.verifier.proofs.StepsLaw.{one-more}
@@ -108,12 +109,12 @@ module _ (f : Fields) (test : Profile → Usable → Bool) (unwritten : Written 
       current asked asks r made known st sound at token
 
 -- what the code answers of a branch: its flow, where it is plain, in its place and reads nothing unwritten
-pub branch-known : (profile : Profile) (usable : Usable) (depth elsMet : ℕ) (current : Written) (f : Fields) (flow : Flow)
-    → isPlainBranch profile usable f ≡ true → flow ≡ flowOf (f .opcode) → misplacedAt flow depth elsMet ≡ false → opensUnwritten flow current f ≡ false
-    → KnownBranch profile usable depth elsMet current f flow
-branch-known profile usable depth elsMet current f flow plain is m l edition stage of used st sound at deep met token =
+pub branch-known : (profile : Profile) (usable : Usable) (depth : ℕ) (innermost : Branch) (current : Written) (f : Fields) (flow : Flow)
+    → isPlainBranch profile usable f ≡ true → flow ≡ flowOf (f .opcode) → misplacedAt flow depth (innermost .«els_met») ≡ false → opensUnwritten flow current f ≡ false
+    → KnownBranch profile usable depth innermost current f flow
+branch-known profile usable depth innermost current f flow plain is m l edition stage of used st sound at deep inner token =
     let p = plain-branch edition stage f (ap₂ (λ p u. isPlainBranch p u f) (sym of) (sym (used ∙ ap usableOf of)) ∙ plain) in
-    by-flow flow (goes-by st sound token edition stage f p flow (sym is) (ap₂ (misplacedAt flow) deep met ∙ m) (ap (λ w. opensUnwritten flow w f) at ∙ l))
+    by-flow flow (goes-by st sound token edition stage f p flow (sym is) (ap₂ (λ d b. misplacedAt flow d (b .«els_met»)) deep inner ∙ m) (ap (λ w. opensUnwritten flow w f) at ∙ l))
   where
     by-flow : (flow : Flow) {next : State} → next ≡ partedState (metState st flow) flow token → branchStep flow st token next
     by-flow Plain e = tt
