@@ -9,7 +9,7 @@ use lib.Dec.{eqb, ltb}
 use lib.ListN.{length, drop}
 use borrow.Author.Tests.{lt-ltb, le-ltb, ltb-false}
 use Rattle.bytecode.specs.Decode.{refusal, noRefusal}
-use Rattle.bytecode.specs.Encode.{sourceFits, isEncodable, tokenBytes, encodeFault, encodeOf, afterEncode, Encodes}
+use Rattle.bytecode.specs.Encode.{sourceFits, isEncodable, encodedBytes, encodeFault, encodeOf, afterEncode, Encodes}
 use Rattle.layout.specs.declared.record.Token.{Token}
 use Rattle.bytecode.specs.declared.answers.Encoded.the-variants.{Written, Refused}
 
@@ -29,7 +29,7 @@ module _ (t : Token) (buffer : List ℕ) where
       let l = lt-ltb (length buffer) 24 h in
       record { answer = simp (e, l); numbers = simp (e, l); buffer = simp (e, l) }
 
-  pub written : isEncodable t ≡ true → 24 ≤ length buffer → Encodes t buffer (tokenBytes t ++ drop 24 buffer) Written
+  pub written : isEncodable t ≡ true → 24 ≤ length buffer → Encodes t buffer (encodedBytes t ++ drop 24 buffer) Written
   unfolding encodeFault encodeOf afterEncode
   written e h =
       let l = le-ltb (length buffer) 24 h in

@@ -16,7 +16,7 @@ use Rattle.layout.specs.Layout.{destinationBits, operandBits, isStray}
 use Rattle.bytecode.specs.Fields.{fieldsOf, bytesOf}
 use Rattle.layout.specs.Records.{destinationOf, operandOf, tokenOf}
 use Rattle.bytecode.specs.Decode.{noRefusal, tokenFault, decodeOf}
-use Rattle.bytecode.specs.Encode.{destinationFits, destinationField, operandFits, operandField, isEncodable, tokenFields, tokenBytes}
+use Rattle.bytecode.specs.Encode.{destinationFits, destinationField, operandFits, operandField, isEncodable, tokenFields, encodedBytes}
 use Rattle.bytecode.specs.RoundTrip.{RoundTrip}
 use Rattle.layout.specs.declared.opcodes.OperandShape.{OperandShape}
 use Rattle.layout.specs.declared.opcodes.OperandShape.the-variants.{Unused as NoField, Source as SourceField, Sampler as SamplerField}
@@ -69,11 +69,11 @@ module _ (f : Fields) (c : Clean (shapeOf (f .opcode)) f) where
   unfolding tokenOf
   token-fields-again = rw (d .1, a .1, b .1)
 
-from-bytes : (s : List ℕ) (t : Token) → T (areBytes s) → decodeOf s ≡ Accepted t → (isEncodable t ≡ true) × (tokenBytes t ≡ s)
+from-bytes : (s : List ℕ) (t : Token) → T (areBytes s) → decodeOf s ≡ Accepted t → (isEncodable t ≡ true) × (encodedBytes t ≡ s)
 from-bytes s t h e =
     let (l, n, m) = accepted s t e in
     let c = clean (shapeOf (fieldsOf s .opcode)) (fieldsOf s) n in
-    (ap isEncodable m ∙ token-encodable (fieldsOf s) c, ap tokenBytes m ∙ ap bytesOf (token-fields-again (fieldsOf s) c) ∙ bytes-again s l h)
+    (ap isEncodable m ∙ token-encodable (fieldsOf s) c, ap encodedBytes m ∙ ap bytesOf (token-fields-again (fieldsOf s) c) ∙ bytes-again s l h)
 
 -- ---- from a record
 
@@ -86,7 +86,7 @@ same : (t : Token)
 unfolding tokenOf
 same t d a b = rw (d, a, b)
 
-from-record : (t : Token) → isEncodable t ≡ true → decodeOf (tokenBytes t) ≡ Accepted t
+from-record : (t : Token) → isEncodable t ≡ true → decodeOf (encodedBytes t) ≡ Accepted t
 from-record t e =
     let h = shapeOf (t .opcode) in
     let listed = listed t e in
@@ -95,8 +95,8 @@ from-record t e =
     let b = source2-packed t e in
     let f = fields-again (tokenFields t) (omega (arith, listed-below (t .opcode) listed)) (d .small) (a .small) (b .small) in
     let c : Clean h (tokenFields t) = record { listed = listed; destination = d .clean; source1 = a .clean; source2 = b .clean } in
-    let n : tokenFault (shapeOf (fieldsOf (tokenBytes t) .opcode)) (fieldsOf (tokenBytes t)) ≡ noRefusal = ap (λ g. tokenFault (shapeOf (g .opcode)) g) f ∙ clean-none h (tokenFields t) c in
-    sym (no-faults (tokenBytes t) refl (ap (λ r. r .number) n) .answer) ∙ ap (λ g. Accepted (tokenOf (shapeOf (g .opcode)) g)) f ∙ ap Accepted (same t (d .again) (a .again) (b .again))
+    let n : tokenFault (shapeOf (fieldsOf (encodedBytes t) .opcode)) (fieldsOf (encodedBytes t)) ≡ noRefusal = ap (λ g. tokenFault (shapeOf (g .opcode)) g) f ∙ clean-none h (tokenFields t) c in
+    sym (no-faults (encodedBytes t) refl (ap (λ r. r .number) n) .answer) ∙ ap (λ g. Accepted (tokenOf (shapeOf (g .opcode)) g)) f ∙ ap Accepted (same t (d .again) (a .again) (b .again))
 
 pub round-trip : RoundTrip
 round-trip =
@@ -107,5 +107,5 @@ round-trip =
           (sym (w .answer), sym (w .buffer) ∙ ap (λ x. x ++ drop 24 buffer) q);
       records = λ t buffer e.
           let (i, l) = was-written t buffer e in
-          ap decodeOf (ap (take 24) (sym (written t buffer i l .buffer)) ∙ take-at (tokenBytes t) (drop 24 buffer) 24 refl) ∙ from-record t i;
+          ap decodeOf (ap (take 24) (sym (written t buffer i l .buffer)) ∙ take-at (encodedBytes t) (drop 24 buffer) 24 refl) ∙ from-record t i;
     }

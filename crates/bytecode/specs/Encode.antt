@@ -165,8 +165,8 @@ tokenFields t =
     }
 
 -- the 24 bytes of a record
-abbrev pub tokenBytes : Token → List ℕ
-tokenBytes t = bytesOf (tokenFields t)
+abbrev pub encodedBytes : Token → List ℕ
+encodedBytes t = bytesOf (tokenFields t)
 
 -- ---- encode
 
@@ -180,7 +180,7 @@ encodeOf t buffer = cond (eqb (encodeFault t buffer .number) 0) Written (Refused
 
 -- what the lent buffer holds afterwards: the token and then what was there, or all that was there
 unfoldable pub afterEncode : Token → List ℕ → List ℕ
-afterEncode t buffer = cond (eqb (encodeFault t buffer .number) 0) (tokenBytes t ++ drop 24 buffer) buffer
+afterEncode t buffer = cond (eqb (encodeFault t buffer .number) 0) (encodedBytes t ++ drop 24 buffer) buffer
 
 -- the promise of encode: its answer, the numbers of its answer by the rules above, and the buffer afterwards
 pub record Encodes (t : Token) (before after : List ℕ) (r : Encoded) : Type 0 where

@@ -41,6 +41,10 @@ pub neither : (a b : Bool) → (a || b) ≡ false → (a ≡ false) × (b ≡ fa
 neither true b e = absurd (false≢true (sym e))
 neither false b e = (refl, e)
 
+pub both-false : (a b : Bool) → a ≡ false → b ≡ false → (a || b) ≡ false
+both-false true b h k = h
+both-false false b h k = k
+
 pub same→eq : (a b : Bool) → T (Bool·beq a b) → a ≡ b
 same→eq true true t = refl
 same→eq true false t = absurd t

@@ -8,24 +8,12 @@ use Prim.Native.Nat.{ℕ, zero, suc, _≤_, _<_}
 use native.Mathlib.Omega.{arith}
 use lib.Dec.{eqb, eqb→eq, eqb-refl}
 use lib.ListN.{length}
-use Rattle.laws.proofs.Every.{is-true}
+use Rattle.laws.proofs.Every.{is-true, neither, both-false}
 use Rattle.paths.specs.Paths.{Flow, plain, opener, els, eif, Path, arrive, leave}
 use Rattle.paths.specs.Unwritten.{ComponentSet, nothing, has, adds}
 use Rattle.paths.specs.Check.{currentAt, keptAt, keptAfter}
 
 -- ---- booleans that are false
-
-or-left : (a b : Bool) → (a || b) ≡ false → a ≡ false
-or-left true b h = h
-or-left false b h = refl
-
-or-right : (a b : Bool) → (a || b) ≡ false → b ≡ false
-or-right true b h = absurd (true≢false h)
-or-right false b h = h
-
-or-both : (a b : Bool) → a ≡ false → b ≡ false → (a || b) ≡ false
-or-both true b h k = h
-or-both false b h k = k
 
 and-left : (a b : Bool) → a ≡ false → (a && b) ≡ false
 and-left true b h = absurd (true≢false h)
@@ -137,7 +125,7 @@ at-complete eif s (k ∷ ks) r (suc d) b c h = (suc (suc d), omega arith, refl, 
 
 write-sound : (s : ComponentSet) (ks : List ComponentSet) (xs : List ℕ) (d : ℕ) (w : ComponentSet) (c : ℕ)
     → (w c ≡ false → level s ks d c ≡ false) → writtenAt d w xs c ≡ false → level (adds s xs) ks d c ≡ false
-write-sound s ks xs zero w c f h = or-both (s c) (has xs c) (f (or-left (w c) (has xs c) h)) (or-right (w c) (has xs c) h)
+write-sound s ks xs zero w c f h = both-false (s c) (has xs c) (f (neither (w c) (has xs c) h .0)) (neither (w c) (has xs c) h .1)
 write-sound s ks xs (suc d) w c f h = f h
 
 write-local : (d : ℕ) (w v : ComponentSet) (xs : List ℕ) (c : ℕ) → w c ≡ v c → writtenAt d w xs c ≡ writtenAt d v xs c
@@ -182,8 +170,8 @@ module _ {s : ComponentSet} {ks : List ComponentSet} {n : ℕ} {position : Path 
       back : (d : ℕ) → d ≤ length ks → (c : ℕ) → level (adds s xs) ks d c ≡ false
           → (p : Path) × (position p ≡ d) × (writtenAt (position p) (written p) xs c ≡ false)
       back zero b c h =
-          let q = l .complete zero b c (or-left (s c) (has xs c) h) in
-          (q .0, q .1, rw (q .1) (or-both (written (q .0) c) (has xs c) (q .2) (or-right (s c) (has xs c) h)))
+          let q = l .complete zero b c (neither (s c) (has xs c) h .0) in
+          (q .0, q .1, rw (q .1) (both-false (written (q .0) c) (has xs c) (q .2) (neither (s c) (has xs c) h .1)))
       back (suc d) b c h = let q = l .complete (suc d) b c h in (q .0, q .1, rw (q .1) (q .2))
 
   -- a path that visits the opener n, with the choice b there

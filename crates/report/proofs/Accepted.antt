@@ -10,6 +10,7 @@ use lib.Dec.{eqb, ltb, leb}
 use lib.ListN.{length}
 use borrow.Author.Tests.{ne-eqb, le-leb, ltb-false, leb-false, eqb-true, not-false}
 use Rattle.layout.specs.Opcodes.{shapeOf, rowCount2}
+use Rattle.laws.proofs.Every.{neither as none-of}
 use Rattle.bytecode.specs.Fields.{fieldsOf, recordOf}
 use Rattle.layout.specs.Records.{destinationOf, operandOf, tokenOf}
 use Rattle.bytecode.specs.Encode.{destinationFits, operandFits, isEncodable}
@@ -48,21 +49,13 @@ append-kept : (rs qs : List Rule) → AllKept (rs ++ qs) → AllKept rs × AllKe
 append-kept [] qs k = (tt, k)
 append-kept (r ∷ rs) qs k = let (a, b) = append-kept rs qs (k .1) in ((k .0, a), b)
 
-or-left : (a b : Bool) → (a || b) ≡ false → a ≡ false
-or-left true b e = e
-or-left false b e = refl
-
-or-right : (a b : Bool) → (a || b) ≡ false → b ≡ false
-or-right true b e = absurd (true≢false e)
-or-right false b e = e
-
 of-three : (a b c : Bool) → (a || b || c) ≡ false → a ≡ false
-of-three a b c e = or-left a b (or-left (a || b) c e)
+of-three a b c e = none-of a b (none-of (a || b) c e .0) .0
 
 of-five : (a b c d e : Bool) → (a || b || c || d || e) ≡ false → (b ≡ false) × (c ≡ false)
 of-five a b c d e k =
-    let k3 = or-left (a || b || c) d (or-left (a || b || c || d) e k) in
-    (or-right a b (or-left (a || b) c k3), or-right (a || b) c k3)
+    let k3 = none-of (a || b || c) d (none-of (a || b || c || d) e k .0) .0 in
+    (none-of a b (none-of (a || b) c k3 .0) .1, none-of (a || b) c k3 .1)
 
 -- ---- every register has a name
 
@@ -99,7 +92,7 @@ writable-named kind stage e =
 module _ (count : ℕ → ℕ) (stage : ℕ) where
   destination-named : (d : Destination) → destinationWrong count stage d ≡ false → destinationHasNames d ≡ true
   destination-named NoDestination e = refl
-  destination-named (Masked r) e = writable-named (r .kind) stage (not-false _ (or-left _ _ e))
+  destination-named (Masked r) e = writable-named (r .kind) stage (not-false _ (none-of _ _ e .0))
 
   sampler-named : (s : Sampler) → samplerWrong count s ≡ false → not (settingsWrong s) ≡ true
   sampler-named s e = ap not (or-right (leb (count 5) (s .number)) (settingsWrong s) e)

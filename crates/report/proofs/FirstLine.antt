@@ -15,7 +15,7 @@ use Rattle.listing.specs.declared.first.Heading.{Heading}
 use Rattle.listing.proofs.FirstMost.{first-most}
 use Rattle.listing.proofs.first.FirstLine.{the-type}
 use Rattle.layout.specs.Programs.{tokenCount}
-use Rattle.report.specs.Writers.{allLines, Listed, linesAfter, HasLines, Opens, HasRoom, Puts, Measured}
+use Rattle.report.specs.Writers.{allLines, Listed, linesAfter, HasLines, BeginsText, HasRoom, Puts, Measured}
 use Rattle.report.proofs.Room.{front, behind, in-turn, add-lengths}
 
 -- the program's bytes, as the code cuts them out after the digit
@@ -23,8 +23,8 @@ pub after-digit : (input : List ℕ) → take (length input - 1) (drop 1 input) 
 after-digit input = ap (λ k. take k (drop 1 input)) (sym (length-drop 1 input)) ∙ take-length (drop 1 input)
 
 -- so what is known of them is known of what is cut out
-pub cut : {text : List ℕ} {first : FirstLine} (input : List ℕ) → Opens text (drop 1 input) first → Opens text (take (length input - 1) (drop 1 input)) first
-cut {text} {first} input o = subst (λ b. Opens text b first) (sym (after-digit input)) o
+pub cut : {text : List ℕ} {first : FirstLine} (input : List ℕ) → BeginsText text (drop 1 input) first → BeginsText text (take (length input - 1) (drop 1 input)) first
+cut {text} {first} input o = subst (λ b. BeginsText text b first) (sym (after-digit input)) o
 
 -- a first line that is not an accepted program's, by the code's numbers for the four kinds
 abbrev IsAlone : FirstLine → Type 0
@@ -37,7 +37,7 @@ none-after (Refused f) bytes k = refl
 none-after NoEdition bytes k = refl
 none-after InputTooLong bytes k = refl
 
-module _ {text bytes : List ℕ} {first : FirstLine} (o : Opens text bytes first) where
+module _ {text bytes : List ℕ} {first : FirstLine} (o : BeginsText text bytes first) where
   -- it is no longer than the text may be
   pub first-short : firstMost first ≤ 262178
   first-short = omega (arith, first-most first)
@@ -74,5 +74,5 @@ module _ {text bytes : List ℕ} {first : FirstLine} (o : Opens text bytes first
     both-measured a b = rw two-parts (add-lengths most a b)
 
 -- bytes that hold a program stand after a digit
-pub has-digit : {text : List ℕ} {first : FirstLine} {h : Heading} (input : List ℕ) → Opens text (drop 1 input) first → first ≡ Accepted h → 1 ≤ length input
+pub has-digit : {text : List ℕ} {first : FirstLine} {h : Heading} (input : List ℕ) → BeginsText text (drop 1 input) first → first ≡ Accepted h → 1 ≤ length input
 has-digit input o e = omega (arith, listed o e .header, length-drop 1 input)

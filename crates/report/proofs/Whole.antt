@@ -23,12 +23,12 @@ use Rattle.verifier.specs.declared.answers.Checked.the-variants.{Accepted, Refu
 use Rattle.report.specs.Lines.{linesFrom, Listable}
 use Rattle.report.specs.Text.{answerText, isEdition, editionOf, textOf}
 use Rattle.report.specs.Report.{Reports}
-use Rattle.report.specs.Writers.{linesAfter, HasLines, Opens}
+use Rattle.report.specs.Writers.{linesAfter, HasLines, BeginsText}
 use Rattle.report.proofs.Accepted.{lists}
 use Rattle.report.proofs.FirstLine.{after-digit}
 
 -- no lines after the first one
-alone : {text bytes : List ℕ} (f : FirstLine) → text ≡ firstLine f → linesAfter f bytes ≡ [] → HasLines f bytes → Opens text bytes f
+alone : {text bytes : List ℕ} (f : FirstLine) → text ≡ firstLine f → linesAfter f bytes ≡ [] → HasLines f bytes → BeginsText text bytes f
 alone f e none lines = record { whole = e ∙ sym (append-nil (firstLine f)) ∙ ap (λ l. firstLine f ++ l) (sym none); lines = lines }
 
 -- ---- what the check answers
@@ -46,7 +46,7 @@ module _ (edition : ℕ) (bytes : List ℕ) (few : length bytes ≤ 49159) where
     pub tokens-few : p .tokens < 65536
     tokens-few = omega (arith, tokens-are)
 
-    pub accepted-opens : Opens (answerText edition bytes (verdict edition bytes)) bytes (AcceptedLine (record { edition = edition; stage = p .stage; tokens = p .tokens }))
+    pub accepted-opens : BeginsText (answerText edition bytes (verdict edition bytes)) bytes (AcceptedLine (record { edition = edition; stage = p .stage; tokens = p .tokens }))
     accepted-opens =
         record {
           whole = ap (answerText edition bytes) e ∙ ap (λ k. headingLine (record { edition = edition; stage = p .stage; tokens = p .tokens }) ++ linesFrom (p .stage) bytes 0 k 0) tokens-are;
@@ -57,7 +57,7 @@ module _ (edition : ℕ) (bytes : List ℕ) (few : length bytes ≤ 49159) where
           };
         }
 
-  pub refused-opens : (f : Refusal) → verdict edition bytes ≡ Refused f → Opens (answerText edition bytes (verdict edition bytes)) bytes (RefusedLine f)
+  pub refused-opens : (f : Refusal) → verdict edition bytes ≡ Refused f → BeginsText (answerText edition bytes (verdict edition bytes)) bytes (RefusedLine f)
   refused-opens f e = alone (RefusedLine f) (ap (answerText edition bytes) e) refl tt
 
 -- ---- the tests in their order
@@ -66,27 +66,27 @@ pub edition-range : (b : ℕ) → isEdition b ≡ true → (49 ≤ b) × (b ≤ 
 edition-range b e = (leb-true 49 b (left (leb 49 b) (leb b 51) e), leb-true b 51 (right (leb 49 b) (leb b 51) e))
 
 module _ (input : List ℕ) where
-  pub too-long : 49160 < length input → Opens (textOf input) (drop 1 input) InputTooLong
+  pub too-long : 49160 < length input → BeginsText (textOf input) (drop 1 input) InputTooLong
   unfolding textOf
   too-long h = alone InputTooLong (simp (lt-ltb 49160 (length input) h)) refl tt
 
   module _ (h : length input ≤ 49160) where
-    pub no-edition : length input ≡ 0 → Opens (textOf input) (drop 1 input) NoEdition
+    pub no-edition : length input ≡ 0 → BeginsText (textOf input) (drop 1 input) NoEdition
     unfolding textOf
     no-edition e = alone NoEdition (simp (le-ltb 49160 (length input) h, eq-eqb (length input) 0 e)) refl tt
 
     module _ (n : length input ≡ 0 → ⊥) where
-      pub other-byte : isEdition (getD input 0 0) ≡ false → Opens (textOf input) (drop 1 input) (RefusedLine (refusal 1 0 0))
+      pub other-byte : isEdition (getD input 0 0) ≡ false → BeginsText (textOf input) (drop 1 input) (RefusedLine (refusal 1 0 0))
       unfolding textOf
       other-byte e = alone (RefusedLine (refusal 1 0 0)) (rw (le-ltb 49160 (length input) h, ne-eqb (length input) 0 n, e)) refl tt
 
       pub with-edition : (edition : ℕ) → edition ≡ editionOf (getD input 0 0) → isEdition (getD input 0 0) ≡ true → {first : FirstLine}
-          → Opens (answerText edition (take (length input - 1) (drop 1 input)) (verdict edition (take (length input - 1) (drop 1 input)))) (take (length input - 1) (drop 1 input)) first
-          → Opens (textOf input) (drop 1 input) first
+          → BeginsText (answerText edition (take (length input - 1) (drop 1 input)) (verdict edition (take (length input - 1) (drop 1 input)))) (take (length input - 1) (drop 1 input)) first
+          → BeginsText (textOf input) (drop 1 input) first
       unfolding textOf
       with-edition edition d e {first} o =
           rw (le-ltb 49160 (length input) h, ne-eqb (length input) 0 n, e, ← d)
-          (subst (λ b. Opens (answerText edition b (verdict edition b)) b first) (after-digit input) o)
+          (subst (λ b. BeginsText (answerText edition b (verdict edition b)) b first) (after-digit input) o)
 
 -- ---- report
 

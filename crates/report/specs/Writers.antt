@@ -36,7 +36,7 @@ HasLines NoEdition bytes = Unit {0}
 HasLines InputTooLong bytes = Unit {0}
 
 -- A text opens with this first line, and the token lines of a program's bytes follow where that is accepted.
-pub record Opens (text bytes : List ℕ) (first : FirstLine) : Type 0 where
+pub record BeginsText (text bytes : List ℕ) (first : FirstLine) : Type 0 where
   pub whole : text ≡ firstLine first ++ linesAfter first bytes
   pub lines : HasLines first bytes
 

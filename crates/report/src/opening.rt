@@ -4,13 +4,13 @@ ghost use Prim.Native.Nat.{_≤_};
 ghost use lib.ListN.{length, drop};
 ghost use Rattle.verifier.specs.Verdict.{verdict};
 ghost use Rattle.report.specs.Text.{answerText, isEdition as isEditionDigit, editionOf, textOf};
-ghost use Rattle.report.specs.Writers.{Opens};
+ghost use Rattle.report.specs.Writers.{BeginsText};
 use listing::first::FirstLine;
 use listing::first::Heading;
 use verifier::answers::Checked;
 
 pub(crate) fn first_of(input: &[u8]) -> FirstLine
-    ensures { λ r. ⌜ Opens (textOf (now (input .entry))) (drop 1 (now (input .entry))) r ⌝ }
+    ensures { λ r. ⌜ BeginsText (textOf (now (input .entry))) (drop 1 (now (input .entry))) r ⌝ }
 {
     if 49160 < input.len() {
         return FirstLine::InputTooLong;
@@ -42,7 +42,7 @@ fn edition_of(digit: u8) -> u16
 // What the check answers. As many bytes hold at most 2048 tokens.
 fn answer_of(edition: u16, bytes: &[u8]) -> FirstLine
     requires { ⌜ length (now bytes) ≤ 49159 ⌝ }
-    ensures { λ r. ⌜ Opens (answerText edition (now (bytes .entry)) (verdict edition (now (bytes .entry)))) (now (bytes .entry)) r ⌝ }
+    ensures { λ r. ⌜ BeginsText (answerText edition (now (bytes .entry)) (verdict edition (now (bytes .entry)))) (now (bytes .entry)) r ⌝ }
 {
     match verifier::check(edition as u32, bytes) {
         Checked::Accepted(program) => {

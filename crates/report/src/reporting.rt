@@ -3,7 +3,7 @@ ghost use lib.ListN.{length, drop};
 ghost use Rattle.listing.specs.First.{firstLine, firstMost};
 ghost use Rattle.report.specs.Text.{textOf};
 ghost use Rattle.report.specs.Report.{Reports};
-ghost use Rattle.report.specs.Writers.{Opens, HasRoom, Measured, Fits, Puts};
+ghost use Rattle.report.specs.Writers.{BeginsText, HasRoom, Measured, Fits, Puts};
 use crate::opening;
 use crate::tokens;
 use listing::answers::Printed;
@@ -23,7 +23,7 @@ pub fn report(input: &[u8], out: &mut [u8]) -> Printed
 // Whether so many bytes are room for the text. Its length is known once it is written, so it is measured first, but not where there is room
 // for any text: for a first line, and 2048 token lines.
 fn fits(room: usize, first: FirstLine, input: &[u8]) -> bool
-    requires { ⌜ Opens (textOf (now input)) (drop 1 (now input)) first ⌝ }
+    requires { ⌜ BeginsText (textOf (now input)) (drop 1 (now input)) first ⌝ }
     ensures { λ r. ⌜ Fits (textOf (now (input .entry))) room r ⌝ }
 {
     if 262178 <= room {
@@ -33,7 +33,7 @@ fn fits(room: usize, first: FirstLine, input: &[u8]) -> bool
 }
 
 fn text_length(first: FirstLine, input: &[u8]) -> usize
-    requires { ⌜ Opens (textOf (now input)) (drop 1 (now input)) first ⌝ }
+    requires { ⌜ BeginsText (textOf (now input)) (drop 1 (now input)) first ⌝ }
     ensures { λ r. ⌜ Measured (textOf (now (input .entry))) 262178 r ⌝ }
 {
     let n = first_length(first);
@@ -52,7 +52,7 @@ fn first_length(first: FirstLine) -> usize
 
 // The first line, and the token lines of a program that is accepted.
 fn put_text(out: &mut [u8], first: FirstLine, input: &[u8]) -> usize
-    requires { ⌜ Opens (textOf (now input)) (drop 1 (now input)) first ⌝ }
+    requires { ⌜ BeginsText (textOf (now input)) (drop 1 (now input)) first ⌝ }
     requires { ⌜ HasRoom (textOf (now input)) 262178 0 (length (now out)) ⌝ }
     ensures { λ r. ⌜ Puts (textOf (now (input .entry))) 262178 0 (now (out .entry)) (now (out .exit)) r ⌝ }
 {

@@ -27,7 +27,7 @@ use Rattle.faults.specs.declared.profile.Profile.{Profile}
 use Rattle.faults.proofs.PlainBranch.{PlainBranch, plain-branch}
 use Rattle.faults.proofs.PlainToken.{PlainToken}
 use Rattle.verifier.specs.Glance.{passedUnless, Whenever, Passes, opensUnwritten, branchStep, KnownBranch}
-use Rattle.verifier.specs.State.{misplacedAt, isMisplaced, metState, partedState, withCurrent, withFault, writtenBy, wroteState}
+use Rattle.verifier.specs.State.{isOutOfPlace, isMisplaced, metState, partedState, withCurrent, withFault, writtenBy, wroteState}
 use Rattle.verifier.specs.Step.{faultOfFields, nextOf, followOf, stepOf}
 use Rattle.verifier.specs.Steps.{stepsOver}
 use Rattle.verifier.specs.declared.glance.Passed.{Passed}
@@ -110,11 +110,11 @@ module _ (f : Fields) (test : Profile → Usable → Bool) (unwritten : Written 
 
 -- what the code answers of a branch: its flow, where it is plain, in its place and reads nothing unwritten
 pub branch-known : (profile : Profile) (usable : Usable) (depth : ℕ) (innermost : Branch) (current : Written) (f : Fields) (flow : Flow)
-    → isPlainBranch profile usable f ≡ true → flow ≡ flowOf (f .opcode) → misplacedAt flow depth (innermost .«els_met») ≡ false → opensUnwritten flow current f ≡ false
+    → isPlainBranch profile usable f ≡ true → flow ≡ flowOf (f .opcode) → isOutOfPlace flow depth (innermost .«els_met») ≡ false → opensUnwritten flow current f ≡ false
     → KnownBranch profile usable depth innermost current f flow
 branch-known profile usable depth innermost current f flow plain is m l edition stage of used st sound at deep inner token =
     let p = plain-branch edition stage f (ap₂ (λ p u. isPlainBranch p u f) (sym of) (sym (used ∙ ap usableOf of)) ∙ plain) in
-    by-flow flow (goes-by st sound token edition stage f p flow (sym is) (ap₂ (λ d b. misplacedAt flow d (b .«els_met»)) deep inner ∙ m) (ap (λ w. opensUnwritten flow w f) at ∙ l))
+    by-flow flow (goes-by st sound token edition stage f p flow (sym is) (ap₂ (λ d b. isOutOfPlace flow d (b .«els_met»)) deep inner ∙ m) (ap (λ w. opensUnwritten flow w f) at ∙ l))
   where
     by-flow : (flow : Flow) {next : State} → next ≡ partedState (metState st flow) flow token → branchStep flow st token next
     by-flow Plain e = tt

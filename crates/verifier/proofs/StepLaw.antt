@@ -21,7 +21,7 @@ use Rattle.registers.specs.Counts.{countOf}
 use Rattle.registers.specs.Uses.{isWritable}
 use Rattle.registers.proofs.Outside.{outside-stage, outside-edition}
 use Rattle.laws.specs.Tests.{every}
-use Rattle.laws.proofs.Every.{below}
+use Rattle.laws.proofs.Every.{below, neither}
 use Rattle.paths.specs.Paths.{PathToken}
 use Rattle.paths.specs.Nesting.{misplaced}
 use Rattle.paths.specs.Faults.{Answer, refused}
@@ -56,15 +56,11 @@ temporary-count edition stage =
       | no e ↦ rw (outside-edition 2 edition stage (omega (arith, e))) (omega arith)
     ]
 
-or-right : (a b : Bool) → (a || b) ≡ false → b ≡ false
-or-right true b e = absurd (mathlib.Core.Bool.true≢false e)
-or-right false b e = e
-
 pub kept : (edition stage : ℕ) (d : Destination) → destinationWrong (λ k. countOf k edition stage) stage d ≡ false → Kept d
 kept edition stage NoDestination e = tt
 kept edition stage (Masked r) e =
     λ k.
-    let h = leb-false (countOf (r .kind) edition stage) (r .number) (or-right (not (isWritable (r .kind) stage)) (leb (countOf (r .kind) edition stage) (r .number)) e) in
+    let h = leb-false (countOf (r .kind) edition stage) (r .number) (neither (not (isWritable (r .kind) stage)) (leb (countOf (r .kind) edition stage) (r .number)) e .1) in
     let q = ap (λ x. countOf x edition stage) k in
     omega (arith, temporary-count edition stage)
 

@@ -20,8 +20,8 @@ abbrev pub vertex : ℕ → Checked
 vertex tokens = Accepted (program 0 tokens)
 
 -- a fault's number, its token and its part
-abbrev pub refused : ℕ → ℕ → ℕ → Checked
-refused number token part = Refused (refusal number token part)
+abbrev pub refusedBy : ℕ → ℕ → ℕ → Checked
+refusedBy number token part = Refused (refusal number token part)
 
 -- ---- bytes: of a token its opcode, its destination, source 1 and source 2, a line each
 
@@ -87,31 +87,31 @@ read =
 abbrev pub benchCases : List Case
 benchCases =
     -- "No bytes: 2."
-    case 1 [] (refused 2 0 0)
+    case 1 [] (refusedBy 2 0 0)
     -- "Seven header bytes: accepted, 0 tokens."
     ∷ case 1 header (vertex 0)
     -- "8 bytes: 7."
-    ∷ case 1 (header ++ 0x00 ∷ []) (refused 7 0 0)
+    ∷ case 1 (header ++ 0x00 ∷ []) (refusedBy 7 0 0)
     -- "A token of zeros: 14." It is a mov into va0, and attributes are not writable.
-    ∷ case 1 (header ++ bare 0x00) (refused 14 0 1)
+    ∷ case 1 (header ++ bare 0x00) (refusedBy 14 0 1)
     -- "Opcode 2b: 9."
-    ∷ case 1 (header ++ bare 0x2b) (refused 9 0 0)
+    ∷ case 1 (header ++ bare 0x2b) (refusedBy 9 0 0)
     -- "ife in edition 1: 10."
-    ∷ case 1 (header ++ ife) (refused 10 0 0)
+    ∷ case 1 (header ++ ife) (refusedBy 10 0 0)
     -- "m44 with vc124, edition 1: accepted;" 124 + 4 rows are 128
     ∷ case 1 (header ++ m44With 124) (vertex 1)
     -- "vc125: 17." in source 2
-    ∷ case 1 (header ++ m44With 125) (refused 17 0 3)
+    ∷ case 1 (header ++ m44With 125) (refusedBy 17 0 3)
     -- "mov from vt0 first: 21." in source 1
-    ∷ case 1 (header ++ read) (refused 21 0 2)
+    ∷ case 1 (header ++ read) (refusedBy 21 0 2)
     -- "vt0 written in both blocks, then read: accepted;"
     ∷ case 2 (header ++ ife ++ write 0 ++ els ++ write 0 ++ eif ++ read) (vertex 6)
     -- "in the first only: 21.", with a second block that writes vt1, with an empty one, and with none
-    ∷ case 2 (header ++ ife ++ write 0 ++ els ++ write 1 ++ eif ++ read) (refused 21 5 2)
-    ∷ case 2 (header ++ ife ++ write 0 ++ els ++ eif ++ read) (refused 21 4 2)
-    ∷ case 2 (header ++ ife ++ write 0 ++ eif ++ read) (refused 21 3 2)
+    ∷ case 2 (header ++ ife ++ write 0 ++ els ++ write 1 ++ eif ++ read) (refusedBy 21 5 2)
+    ∷ case 2 (header ++ ife ++ write 0 ++ els ++ eif ++ read) (refusedBy 21 4 2)
+    ∷ case 2 (header ++ ife ++ write 0 ++ eif ++ read) (refusedBy 21 3 2)
     -- "Second els: 20."
-    ∷ case 2 (header ++ ife ++ els ++ els ++ eif) (refused 20 2 0)
+    ∷ case 2 (header ++ ife ++ els ++ els ++ eif) (refusedBy 20 2 0)
     ∷ []
 
 -- every case of the table has its answer

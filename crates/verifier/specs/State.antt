@@ -47,14 +47,14 @@ abbrev pub branchAt : State → ℕ → Branch
 branchAt st i = branch (getD (st .kept) i noneWritten) (getD (st .openers) i 0) (getD (st .«els_met») i 0)
 
 -- 20
-abbrev pub misplacedAt : Flow → ℕ → ℕ → Bool
-misplacedAt Plain depth elsMet = false
-misplacedAt Opener depth elsMet = leb 16 depth
-misplacedAt Els depth elsMet = ltb depth 1 || not (eqb elsMet 0)
-misplacedAt Eif depth elsMet = ltb depth 1
+abbrev pub isOutOfPlace : Flow → ℕ → ℕ → Bool
+isOutOfPlace Plain depth elsMet = false
+isOutOfPlace Opener depth elsMet = leb 16 depth
+isOutOfPlace Els depth elsMet = ltb depth 1 || not (eqb elsMet 0)
+isOutOfPlace Eif depth elsMet = ltb depth 1
 
 abbrev pub isMisplaced : State → Flow → Bool
-isMisplaced st flow = misplacedAt flow (st .depth) (st .innermost .«els_met»)
+isMisplaced st flow = isOutOfPlace flow (st .depth) (st .innermost .«els_met»)
 
 -- the set at hand as a token is met, where this one was kept for the innermost branch
 abbrev pub setMet : Flow → Written → Written → Written

@@ -13,7 +13,7 @@ use Rattle.components.specs.Access.{lacksAccess, access1Of, access2Of}
 use Rattle.components.specs.declared.written.Written.{Written}
 use Rattle.faults.specs.Faults.{ownFault, undecodedFault}
 use Rattle.faults.specs.declared.profile.Profile.{Profile}
-use Rattle.verifier.specs.State.{misplacedAt, setMet, metState, wroteState, partedState, withFault}
+use Rattle.verifier.specs.State.{isOutOfPlace, setMet, metState, wroteState, partedState, withFault}
 use Rattle.verifier.specs.declared.state.Branch.{Branch}
 use Rattle.verifier.specs.declared.state.State.{State}
 
@@ -24,7 +24,7 @@ nextOf st token t = partedState (wroteState (metState st (flowOf (t .opcode))) (
 -- 20, 21 through source 1, 21 through source 2, by what they ask of a state
 unfoldable pub faultOfPaths : Flow → ℕ → Branch → Written → ℕ → Token → Refusal
 faultOfPaths flow depth innermost current token t =
-    cond (misplacedAt flow depth (innermost .«els_met»)) (refusal 20 token 0)
+    cond (isOutOfPlace flow depth (innermost .«els_met»)) (refusal 20 token 0)
     (cond (lacksAccess (setMet flow current (innermost .kept)) (access1Of t)) (refusal 21 token 2)
     (cond (lacksAccess (setMet flow current (innermost .kept)) (access2Of t)) (refusal 21 token 3)
     noRefusal))

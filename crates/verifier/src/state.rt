@@ -5,7 +5,7 @@ ghost use mathlib.Core.Bool.{cond};
 ghost use mathlib.Core.Path.{_≡_};
 ghost use Prim.Native.Nat.{_<_};
 ghost use Rattle.layout.specs.Records.{destinationOf};
-ghost use Rattle.verifier.specs.State.{slotOf, slotAround, misplacedAt, setMet, withFault, exchangedState, joinedState, metState, openedState, partedState, writtenBy, wroteState};
+ghost use Rattle.verifier.specs.State.{slotOf, slotAround, isOutOfPlace, setMet, withFault, exchangedState, joinedState, metState, openedState, partedState, writtenBy, wroteState};
 use bytecode::answers::Refusal;
 use components::written;
 use components::written::Written;
@@ -66,7 +66,7 @@ fn slot_around(depth: usize) -> usize
 
 // Fault 20, by the number of open branches and whether the els of the innermost was met.
 pub(crate) fn is_misplaced(flow: Flow, depth: usize, els_met: u8) -> bool
-    ensures { λ r. ⌜ r ≡ misplacedAt flow depth «els_met» ⌝ }
+    ensures { λ r. ⌜ r ≡ isOutOfPlace flow depth «els_met» ⌝ }
 {
     match flow {
         Flow::Plain => false,
