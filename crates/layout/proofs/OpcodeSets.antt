@@ -11,11 +11,10 @@ use lib.Dec.{T, eqb, leb, eqb→eq}
 use borrow.Author.Tests.{lt-ltb, le-ltb, lt-leb, ne-eqb, eqb-false}
 use Rattle.laws.specs.Tests.{every}
 use Rattle.laws.proofs.Every.{below, both-left, both-right, neither, same→eq}
-use Rattle.layout.specs.Opcodes.{isIn, kil, tex, m33, m44, m34, ife, ine, ifg, ifl, els, eif, firstOpcodes, addedOpcodes, openers, bareOpcodes, isAdded, isMatrix, isBranch, isOrdinary, isOrdinaryIn, rowCount2, flowOf, unlisted, shapeOfRow, shapeOf, sourceShape, secondShape}
+use Rattle.layout.specs.Opcodes.{isIn, kil, tex, m33, m44, m34, ife, eif, firstOpcodes, addedOpcodes, openers, bareOpcodes, isAdded, isMatrix, isBranch, isOrdinary, isOrdinaryIn, rowCount2, unlisted, shapeOfRow, shapeOf, sourceShape, secondShape}
 use Rattle.layout.specs.Selections.{byThree1, byFour1}
 use Rattle.layout.specs.Sets.{amongOf, setBelow, ordinarySet, coordinateSet, namedSet, selectorSet1, selectorSet2, readSet2}
 use Rattle.layout.specs.Swizzles.{bitOf}
-use Rattle.layout.specs.declared.opcodes.Flow.the-variants.{Plain}
 use Rattle.layout.specs.declared.opcodes.OperandShape.{OperandShape}
 use Rattle.layout.specs.declared.opcodes.OperandShape.the-variants.{Unused, Source, Sampler}
 use Rattle.layout.specs.declared.opcodes.Shape.{Shape}
@@ -124,21 +123,6 @@ branch-range o =
       | yes h ↦ same→eq (leb ife o && leb o eif) (isBranch o) (below (λ o. Bool·beq (leb ife o && leb o eif) (isBranch o)) 64 tt o h)
       | no h ↦ rw (lt-leb o eif (omega (arith, h)), and-false (leb ife o), not-in o 64 (openers ++ bareOpcodes) (omega (arith, h)) tt)
     ]
-
-pub no-branch : (o : ℕ) → (ife ≤ o → o ≤ eif → ⊥) → flowOf o ≡ Plain
-unfolding flowOf
-no-branch o outside =
-    rw (
-      other ife (omega arith) (omega arith),
-      other ine (omega arith) (omega arith),
-      other ifg (omega arith) (omega arith),
-      other ifl (omega arith) (omega arith),
-      other els (omega arith) (omega arith),
-      other eif (omega arith) (omega arith),
-    )
-  where
-    other : (k : ℕ) → ife ≤ k → k ≤ eif → eqb o k ≡ false
-    other k low high = ne-eqb o k (λ e. outside (omega arith) (omega arith))
 
 -- ---- shapes, by numbers
 

@@ -9,10 +9,10 @@ use Rattle.bytecode.specs.Fields.{fieldsOf}
 use Rattle.layout.specs.declared.fields.Fields.{Fields}
 use Rattle.layout.specs.declared.opcodes.Flow.{Flow}
 use Rattle.faults.specs.Order.{tokenAt}
-use Rattle.faults.specs.Plain.{usableOf}
+use Rattle.faults.specs.LawfulTests.{usableOf}
 use Rattle.faults.specs.Profile.{profileOf}
 use Rattle.faults.specs.Rules.{stageOf, tokenCount}
-use Rattle.faults.specs.declared.plain.Usable.{Usable}
+use Rattle.faults.specs.declared.lawful.Usable.{Usable}
 use Rattle.faults.specs.declared.profile.Profile.{Profile}
 use Rattle.verifier.specs.Glance.{RunsOver, branchStep, KnownBranch}
 use Rattle.verifier.specs.State.{startState, withCurrent}
