@@ -1,7 +1,7 @@
 -- An access stands for exactly the components that document 01 says are read through the source.
 -- Assumes nothing.
 use Prim.Native.Nat.{ℕ, zero, suc, _*_, _%_, _^_, _<_}
-use mathlib.Core.Bool.{Bool, true, false, cond, _&&_}
+use mathlib.Core.Bool.{Bool, true, false, _&&_}
 use mathlib.Core.List.{List, [], _∷_}
 use mathlib.Core.Path.{_≡_, refl, sym, ap, _∙_}
 use native.Mathlib.Omega.{arith}
@@ -9,19 +9,17 @@ use lib.Dec.{eqb}
 use borrow.Author.Tests.{eqb-true, eq-eqb}
 use Rattle.laws.proofs.Every.{left}
 use Rattle.layout.specs.Opcodes.{rowCount2}
-use Rattle.layout.specs.Records.{isIndexed, directOf, indexedOf, sourceOf}
 use Rattle.layout.specs.declared.record.DirectSource.{DirectSource}
 use Rattle.layout.specs.declared.record.Operand.{Operand}
 use Rattle.layout.specs.declared.record.Operand.the-variants.{Unused as NoOperand, Direct, Indexed, Sampler as Sampled}
 use Rattle.layout.specs.declared.record.Token.{Token}
 use Rattle.layout.proofs.SelectionLaws.{named-components, selectors1-components, components2-components}
-use Rattle.layout.proofs.SourceKinds.{indexed-source, direct-source}
 use Rattle.paths.specs.Check.{lacks}
 use Rattle.layout.specs.Swizzles.{maskComponents, named}
 use Rattle.layout.specs.Selections.{selectors1, components2}
 use Rattle.components.specs.Reads.{rowsOf, readsThrough, maskOf, dimensionOf, reads1, reads2, temporaries}
 use Rattle.layout.specs.Sets.{selectorSet1}
-use Rattle.components.specs.Access.{Access, accessed, lacksAccess, lacksSome, mayLack, directAccess, indexAccess}
+use Rattle.components.specs.Access.{Access, accessed, lacksAccess, lacksSome, directAccess}
 use Rattle.components.specs.Access.{accessThrough, components1Of, components2Of, access1Of, access2Of}
 use Rattle.components.specs.Written.{componentSet, lacksOf}
 use Rattle.components.specs.declared.written.Written.{Written}
@@ -87,17 +85,6 @@ none-missing s rows components d e = go (eqb (d .kind) 2) e
 pub lacking : (s : Written) (rows : ℕ) (d : DirectSource) → lacksSome s rows d ≡ true → d .kind ≡ 2
 unfolding lacksSome
 lacking s rows d e = eqb-true (d .kind) 2 (left (eqb (d .kind) 2) (lacksOf s (d .number) rows 15) e)
-
--- what a source does not lack, it does not read unwritten
-pub none-lacking : (s : Written) (rows : ℕ) (components : ℕ → ℕ) (field : ℕ) → mayLack s rows field ≡ false
-    → lacksAccess s (accessThrough rows components (sourceOf field)) ≡ false
-unfolding mayLack
-none-lacking s rows components field e = go (isIndexed field) refl e
-  where
-    go : (b : Bool) → isIndexed field ≡ b → cond b (lacksAccess s (indexAccess (indexedOf field))) (lacksSome s rows (directOf field)) ≡ false
-        → lacksAccess s (accessThrough rows components (sourceOf field)) ≡ false
-    go true i l = ap (λ o. lacksAccess s (accessThrough rows components o)) (indexed-source field i) ∙ l
-    go false i l = ap (λ o. lacksAccess s (accessThrough rows components o)) (direct-source field i) ∙ sym (none-missing s rows components (directOf field) l)
 
 -- so the code's test of an access is the check's test of what a token reads
 pub lacks-reads1 : (s : Written) (t : Token) → lacks (componentSet s) (temporaries (reads1 t)) ≡ lacksAccess s (access1Of t)

@@ -1,13 +1,11 @@
 -- Document 01, "Ways, reads and writes", as Reads states it, in the form that the code uses: a register, how many rows from it, and a set
 -- of components as a number. That each says what Reads says is proved, in AccessLaws.
 use Prim.Native.Nat.{ℕ, _*_, _%_, _^_}
-use mathlib.Core.Bool.{Bool, cond, _&&_, _||_}
+use mathlib.Core.Bool.{Bool, _&&_}
 use mathlib.Core.List.{List}
 use lib.Dec.{eqb}
 use Rattle.layout.specs.Opcodes.{rowCount2}
-use Rattle.layout.specs.Sets.{namedSet, coordinateSet, selectorSet1, selectorSet2, readSet2}
-use Rattle.layout.specs.Records.{registerOf, directOf, isIndexed, indexedOf, samplerOf}
-use Rattle.layout.specs.declared.fields.Fields.{Fields}
+use Rattle.layout.specs.Sets.{namedSet, selectorSet1, readSet2}
 use Rattle.layout.specs.declared.record.DirectSource.{DirectSource}
 use Rattle.layout.specs.declared.record.IndexedSource.{IndexedSource}
 use Rattle.layout.specs.declared.record.Operand.{Operand}
@@ -75,31 +73,3 @@ lacksSome s rows d = eqb (d .kind) 2 && lacksOf s (d .number) rows 15
 -- of a direct source of one row the components that some selectors name
 abbrev pub selectedAccess : ℕ → DirectSource → Access
 selectedAccess selectors d = directAccess 1 (λ swizzle. namedSet swizzle selectors) d
-
--- what is read through two direct sources of one row each is not all written; a sampler's dimension is of no matter
-unfoldable pub plainUnwritten : Written → Fields → Bool
-plainUnwritten s f =
-    lacksAccess s (selectedAccess (selectorSet1 (f .opcode) (registerOf (f .destination) .mask) 0) (directOf (f .source1)))
-    || lacksAccess s (selectedAccess (selectorSet2 (f .opcode) (registerOf (f .destination) .mask)) (directOf (f .source2)))
-
--- the same through a matrix, all of whose rows' components are asked for, read or not
-unfoldable pub matrixUnwritten : Written → Fields → Bool
-matrixUnwritten s f =
-    lacksAccess s (selectedAccess (selectorSet1 (f .opcode) (registerOf (f .destination) .mask) 0) (directOf (f .source1)))
-    || lacksSome s (rowCount2 (f .opcode)) (directOf (f .source2))
-
--- and through the coordinates of tex
-unfoldable pub texUnwritten : Written → Fields → Bool
-texUnwritten s f = lacksAccess s (selectedAccess (coordinateSet (samplerOf (f .source2) .dimension)) (directOf (f .source1)))
-
--- a source, indexed or direct, reads what is not written, or might: all four components of a direct one's rows are asked for
-unfoldable pub mayLack : Written → ℕ → ℕ → Bool
-mayLack s rows field = cond (isIndexed field) (lacksAccess s (indexAccess (indexedOf field))) (lacksSome s rows (directOf field))
-
--- and through two such sources
-unfoldable pub indexedUnwritten : Written → Fields → Bool
-indexedUnwritten s f = mayLack s 1 (f .source1) || mayLack s (rowCount2 (f .opcode)) (f .source2)
-
--- and through the two direct sources of an opener, by all four selectors
-unfoldable pub openerUnwritten : Written → Fields → Bool
-openerUnwritten s f = lacksAccess s (selectedAccess 15 (directOf (f .source1))) || lacksAccess s (selectedAccess 15 (directOf (f .source2)))

@@ -1,4 +1,6 @@
 pub mod Access
+pub mod QuickTests
 pub mod Reads
+pub mod ReadsWritten
 pub mod Tokens
 pub mod Written

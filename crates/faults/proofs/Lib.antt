@@ -1,10 +1,10 @@
-pub mod Added
 pub mod Counts
 pub mod FaultLaws
 pub mod OwnFault
-pub mod PlainBranch
-pub mod PlainIndexed
-pub mod PlainOpcodes
-pub mod PlainOperands
-pub mod PlainToken
+pub mod LawfulBranch
+pub mod LawfulIndexed
+pub mod LawfulMeaning
+pub mod LawfulOpcodes
+pub mod LawfulOperands
+pub mod LawfulToken
 pub mod UsableCounts

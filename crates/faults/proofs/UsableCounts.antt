@@ -9,24 +9,25 @@ use native.Mathlib.Omega.{arith}
 use lib.Dec.{T, eqb, ltb, eqb→eq}
 use Rattle.laws.specs.Tests.{every}
 use Rattle.laws.proofs.Every.{below}
+use Rattle.layout.specs.Sets.{ordinarySet}
 use Rattle.registers.specs.Counts.{countOf}
 use Rattle.registers.specs.Uses.{isReadable, isWritable}
 use Rattle.registers.proofs.Outside.{outside-edition, outside-stage}
 use Rattle.registers.proofs.Packed.{none-packed}
 use Rattle.faults.specs.Profile.{profileOf}
-use Rattle.faults.specs.Plain.{plainOpcodes, usable, usableOf, countAt}
-use Rattle.faults.specs.declared.plain.Usable.{Usable}
+use Rattle.faults.specs.LawfulTests.{usable, usableOf, countAt}
+use Rattle.faults.specs.declared.lawful.Usable.{Usable}
 use Rattle.faults.specs.declared.profile.Profile.{Profile}
 
 abbrev pub usableIn : ℕ → ℕ → Usable
 usableIn edition stage = usableOf (profileOf edition stage)
 
 -- the opcodes are those of the edition, whatever the stage
-pub usable-opcodes : (edition stage : ℕ) → usableIn edition stage .opcodes ≡ plainOpcodes edition
+pub usable-opcodes : (edition stage : ℕ) → usableIn edition stage .opcodes ≡ ordinarySet edition
 unfolding usableOf
 usable-opcodes edition stage = go (eqb stage 0) _ _ refl refl
   where
-    go : (b : Bool) (u v : Usable) → u .opcodes ≡ plainOpcodes edition → v .opcodes ≡ plainOpcodes edition → cond b u v .opcodes ≡ plainOpcodes edition
+    go : (b : Bool) (u v : Usable) → u .opcodes ≡ ordinarySet edition → v .opcodes ≡ ordinarySet edition → cond b u v .opcodes ≡ ordinarySet edition
     go true u v e k = e
     go false u v e k = k
 
@@ -81,13 +82,13 @@ none-usable counts opcodes e true = e
 none-usable counts opcodes e false = e
 
 pub readable-counts : (edition stage kind : ℕ) → kind < 8 → Agree (λ u. u .readable) isReadable edition stage kind
-unfolding agrees usableOf plainOpcodes countOf
-readable-counts = agree (λ u. u .readable) isReadable (λ edition stage. none-usable (λ u. u .readable) (plainOpcodes edition) refl (eqb stage 0)) tt
+unfolding agrees usableOf countOf
+readable-counts = agree (λ u. u .readable) isReadable (λ edition stage. none-usable (λ u. u .readable) (ordinarySet edition) refl (eqb stage 0)) tt
 
 pub writable-counts : (edition stage kind : ℕ) → kind < 8 → Agree (λ u. u .writable) isWritable edition stage kind
-unfolding agrees usableOf plainOpcodes countOf
-writable-counts = agree (λ u. u .writable) isWritable (λ edition stage. none-usable (λ u. u .writable) (plainOpcodes edition) refl (eqb stage 0)) tt
+unfolding agrees usableOf countOf
+writable-counts = agree (λ u. u .writable) isWritable (λ edition stage. none-usable (λ u. u .writable) (ordinarySet edition) refl (eqb stage 0)) tt
 
 pub indexing-counts : (edition stage kind : ℕ) → kind < 8 → Agree (λ u. u .indexing) isIndex edition stage kind
-unfolding agrees usableOf plainOpcodes countOf
-indexing-counts = agree (λ u. u .indexing) isIndex (λ edition stage. none-usable (λ u. u .indexing) (plainOpcodes edition) refl (eqb stage 0)) tt
+unfolding agrees usableOf countOf
+indexing-counts = agree (λ u. u .indexing) isIndex (λ edition stage. none-usable (λ u. u .indexing) (ordinarySet edition) refl (eqb stage 0)) tt

@@ -1,6 +1,7 @@
 pub mod Faults
 pub mod Header
 pub mod Order
-pub mod Plain
+pub mod Lawful
+pub mod LawfulTests
 pub mod Profile
 pub mod Rules

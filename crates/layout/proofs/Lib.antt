@@ -1,5 +1,6 @@
 pub mod Listed
 pub mod MaskBits
+pub mod OpcodeLists
 pub mod OpcodeSets
 pub mod Rows
 pub mod SelectionLaws

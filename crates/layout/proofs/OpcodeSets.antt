@@ -2,20 +2,19 @@
 -- each set is told by its list alone, in a test over all 64 numbers that a set can hold.
 -- Assumes nothing.
 use Prim.Native.Nat.{ℕ, _≤_}
-use mathlib.Core.Bool.{Bool, true, false, cond, not, _&&_, _||_, Bool·beq, false≢true}
-use mathlib.Core.List.{List, [], _∷_}
+use mathlib.Core.Bool.{Bool, true, false, cond, not, _&&_, _||_, Bool·beq, and-false, false≢true}
+use mathlib.Core.List.{List, [], _∷_, _++_}
 use mathlib.Core.Path.{_≡_, refl, sym, ap, ap₂, _∙_}
 use native.Mathlib.Decide.{decLt}
 use native.Mathlib.Omega.{arith}
-use lib.Dec.{T, eqb, eqb→eq}
-use borrow.Author.Tests.{lt-ltb, le-ltb, ne-eqb}
+use lib.Dec.{T, eqb, leb, eqb→eq}
+use borrow.Author.Tests.{lt-ltb, le-ltb, lt-leb, ne-eqb, eqb-false}
 use Rattle.laws.specs.Tests.{every}
-use Rattle.laws.proofs.Every.{below, both-left, both-right, same→eq}
-use Rattle.layout.specs.Opcodes.{isIn, kil, tex, m33, m44, m34, ife, ine, ifg, ifl, els, eif, rowCount2, flowOf, unlisted, shapeOfRow, shapeOf, sourceShape, secondShape}
+use Rattle.laws.proofs.Every.{below, both-left, both-right, neither, same→eq}
+use Rattle.layout.specs.Opcodes.{isIn, kil, tex, m33, m44, m34, ife, eif, firstOpcodes, addedOpcodes, openers, bareOpcodes, isAdded, isMatrix, isBranch, isOrdinary, isOrdinaryIn, rowCount2, unlisted, shapeOfRow, shapeOf, sourceShape, secondShape}
 use Rattle.layout.specs.Selections.{byThree1, byFour1}
-use Rattle.layout.specs.Sets.{amongOf, coordinateSet, namedSet, selectorSet1, selectorSet2, readSet2}
+use Rattle.layout.specs.Sets.{amongOf, setBelow, ordinarySet, coordinateSet, namedSet, selectorSet1, selectorSet2, readSet2}
 use Rattle.layout.specs.Swizzles.{bitOf}
-use Rattle.layout.specs.declared.opcodes.Flow.the-variants.{Plain}
 use Rattle.layout.specs.declared.opcodes.OperandShape.{OperandShape}
 use Rattle.layout.specs.declared.opcodes.OperandShape.the-variants.{Unused, Source, Sampler}
 use Rattle.layout.specs.declared.opcodes.Shape.{Shape}
@@ -65,6 +64,14 @@ by-mask set o m d e h t = go (isIn o byThree1) (isIn o byFour1) (eqb o kil) (eqb
 
 -- ---- m33, m44 and m34 stand one after another
 
+-- no number between them is another opcode
+pub outside-matrices : (o : ℕ) → isMatrix o ≡ false → m33 ≤ o → o ≤ m34 → ⊥
+outside-matrices o e low high =
+    let (a, rest) = neither (eqb o m33) _ e in
+    let (b, last) = neither (eqb o m44) _ rest in
+    let (c, _) = neither (eqb o m34) _ last in
+    omega (arith, eqb-false o m33 a, eqb-false o m44 b, eqb-false o m34 c, low, high)
+
 module _ (o : ℕ) (outside : (m33 ≤ o → o ≤ m34 → ⊥)) where
   no-matrix : (k : ℕ) → m33 ≤ k → k ≤ m34 → eqb o k ≡ false
   no-matrix k low high = ne-eqb o k (λ e. outside (omega arith) (omega arith))
@@ -86,22 +93,36 @@ three-rows o low high h =
       | no l ↦ let e : o ≡ m34 = omega (arith, l, h) in rw e
     ]
 
+-- ---- the ordinary opcodes of an edition
+
+-- by whether the edition is the first
+abbrev ordinaryWhere : Bool → ℕ → Bool
+ordinaryWhere first o = isOrdinary o && not (first && isAdded o)
+
+-- the code's set is that of the list
+pub of-edition : (edition : ℕ) (first : Bool) (set : ℕ) → eqb edition 1 ≡ first → T (eqb set (setBelow (ordinaryWhere first) 64)) → set ≡ ordinarySet edition
+unfolding ordinarySet
+of-edition edition first set e t = eqb→eq set (setBelow (ordinaryWhere first) 64) t ∙ ap (λ b. setBelow (ordinaryWhere b) 64) (sym e)
+
+-- an opcode is in the set where it is one of them
+pub in-ordinary : (edition o : ℕ) → amongOf (ordinarySet edition) o ≡ isOrdinaryIn edition o
+in-ordinary edition o = go (eqb edition 1) refl
+  where
+    none : (first : Bool) (o : ℕ) → 64 ≤ o → ordinaryWhere first o ≡ false
+    none first o l = rw (not-in o 64 (firstOpcodes ++ addedOpcodes) l tt)
+
+    go : (b : Bool) → eqb edition 1 ≡ b → amongOf (ordinarySet edition) o ≡ ordinaryWhere b o
+    go true e = ap (λ set. amongOf set o) (sym (of-edition edition true 0x3600007fffff e tt)) ∙ in-set 0x3600007fffff (ordinaryWhere true) tt (none true) o
+    go false e = ap (λ set. amongOf set o) (sym (of-edition edition false 0x36000c7fffff e tt)) ∙ in-set 0x36000c7fffff (ordinaryWhere false) tt (none false) o
+
 -- ---- the openers, els and eif stand one after another
 
-pub no-branch : (o : ℕ) → (ife ≤ o → o ≤ eif → ⊥) → flowOf o ≡ Plain
-unfolding flowOf
-no-branch o outside =
-    rw (
-      other ife (omega arith) (omega arith),
-      other ine (omega arith) (omega arith),
-      other ifg (omega arith) (omega arith),
-      other ifl (omega arith) (omega arith),
-      other els (omega arith) (omega arith),
-      other eif (omega arith) (omega arith),
-    )
-  where
-    other : (k : ℕ) → ife ≤ k → k ≤ eif → eqb o k ≡ false
-    other k low high = ne-eqb o k (λ e. outside (omega arith) (omega arith))
+pub branch-range : (o : ℕ) → (leb ife o && leb o eif) ≡ isBranch o
+branch-range o =
+    elim (decLt o 64) [
+      | yes h ↦ same→eq (leb ife o && leb o eif) (isBranch o) (below (λ o. Bool·beq (leb ife o && leb o eif) (isBranch o)) 64 tt o h)
+      | no h ↦ rw (lt-leb o eif (omega (arith, h)), and-false (leb ife o), not-in o 64 (openers ++ bareOpcodes) (omega (arith, h)) tt)
+    ]
 
 -- ---- shapes, by numbers
 

@@ -1,6 +1,6 @@
 -- Document 01, "Opcodes": the listed opcodes, what a token of each holds, and what else a rule says of some of them by name.
 use Prim.Native.Nat.{ℕ}
-use mathlib.Core.Bool.{Bool, true, false, not, cond, _||_}
+use mathlib.Core.Bool.{Bool, true, false, not, cond, _&&_, _||_}
 use mathlib.Core.List.{List, [], _∷_, _++_}
 use lib.Dec.{eqb}
 use Rattle.layout.specs.declared.opcodes.Flow.{Flow}
@@ -97,9 +97,16 @@ oneSourceOpcodes =
 abbrev pub openers : List ℕ
 openers = ife ∷ ine ∷ ifg ∷ ifl ∷ []
 
+abbrev pub isOpener : ℕ → Bool
+isOpener o = isIn o openers
+
 -- els eif
 abbrev pub bareOpcodes : List ℕ
 bareOpcodes = els ∷ eif ∷ []
+
+-- the opcodes of branches
+abbrev pub isBranch : ℕ → Bool
+isBranch o = isIn o (openers ++ bareOpcodes)
 
 -- "kil or tex in a vertex program": the opcodes that only fragment programs have
 abbrev pub fragmentOpcodes : List ℕ
@@ -122,6 +129,15 @@ matrixOpcodes = m33 ∷ m44 ∷ m34 ∷ []
 abbrev pub isMatrix : ℕ → Bool
 isMatrix o = isIn o matrixOpcodes
 
+-- The ordinary opcodes, all others: each has a destination and one or two sources of one register, in every stage, and no rule says anything
+-- of it by name but 10 and 15.
+abbrev pub isOrdinary : ℕ → Bool
+isOrdinary o = isListed o && not (isMatrix o) && not (isBranch o) && not (isFragmentOnly o)
+
+-- the ordinary opcodes of an edition; edition 1 has no added ones
+abbrev pub isOrdinaryIn : ℕ → ℕ → Bool
+isOrdinaryIn edition o = isOrdinary o && not (eqb edition 1 && isAdded o)
+
 -- "Rows: source 2 of m33 and m34 is 3 registers from its number, of m44 4; every other source 1."
 unfoldable pub rowCount2 : ℕ → ℕ
 rowCount2 o = cond (isIn o (m33 ∷ m34 ∷ [])) 3 (cond (eqb o m44) 4 1)
@@ -129,7 +145,7 @@ rowCount2 o = cond (isIn o (m33 ∷ m34 ∷ [])) 3 (cond (eqb o m44) 4 1)
 -- ---- what an opcode does to branches: "A branch is an opener, a block, perhaps els and a second block, then eif."
 
 unfoldable pub flowOf : ℕ → Flow
-flowOf o = cond (isIn o openers) Opener (cond (eqb o els) Els (cond (eqb o eif) Eif Plain))
+flowOf o = cond (isOpener o) Opener (cond (eqb o els) Els (cond (eqb o eif) Eif Plain))
 
 -- ---- what a token holds
 

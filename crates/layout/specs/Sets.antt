@@ -1,17 +1,26 @@
 -- Sets as the code keeps them, bit by bit: of opcodes, of selectors and of components. Nobody has to believe these: that each says what
 -- Selections says is proved, in SelectionLaws.
-use Prim.Native.Nat.{ℕ, _*_, _/_, _%_, _^_}
+use Prim.Native.Nat.{ℕ, zero, suc, _+_, _*_, _/_, _%_, _^_}
 use mathlib.Core.Bool.{Bool, cond, _&&_}
 use mathlib.Core.List.{[], _∷_}
 use lib.Bits.{bitOr}
 use lib.Dec.{ltb, eqb}
-use Rattle.layout.specs.Opcodes.{isIn, m33, m44, m34, kil, tex}
+use Rattle.layout.specs.Opcodes.{isIn, m33, m44, m34, kil, tex, isOrdinaryIn}
 use Rattle.layout.specs.Swizzles.{bitOf}
 use Rattle.layout.specs.Selections.{byThree1, byThree2, byFour1, byFour2}
 
 -- a set of opcodes has an opcode
 unfoldable pub amongOf : ℕ → ℕ → Bool
 amongOf set opcode = ltb opcode 64 && bitOf set opcode
+
+-- the set of the opcodes below some number that pass a test
+abbrev pub setBelow : (ℕ → Bool) → ℕ → ℕ
+setBelow test zero = 0
+setBelow test (suc n) = cond (test n) (2 ^ n) 0 + setBelow test n
+
+-- the set of the ordinary opcodes of an edition
+unfoldable pub ordinarySet : ℕ → ℕ
+ordinarySet edition = setBelow (isOrdinaryIn edition) 64
 
 -- the set of one component, or no component where the lowest bit of a set of selectors is not set
 abbrev pub chosenSet : ℕ → ℕ → ℕ

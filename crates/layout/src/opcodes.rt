@@ -1,7 +1,7 @@
 // The opcodes, what a token of each holds, and what else a rule says of some of them. Every set of opcodes stands here and in `selection`.
 ghost use mathlib.Core.Path.{_≡_};
-ghost use Rattle.layout.specs.Opcodes.{shapeOf, sourceShape, secondShape, isAdded, isFragmentOnly, isThreeWide, isMatrix, flowOf};
-ghost use Rattle.layout.specs.Sets.{amongOf};
+ghost use Rattle.layout.specs.Opcodes.{shapeOf, sourceShape, secondShape, isAdded, isFragmentOnly, isThreeWide, isMatrix, isOpener, isBranch, flowOf};
+ghost use Rattle.layout.specs.Sets.{amongOf, ordinarySet};
 
 // What stands in the field of a source.
 pub enum OperandShape {
@@ -31,6 +31,8 @@ pub const M33: u32 = 0x17;
 pub const M44: u32 = 0x18;
 
 pub const M34: u32 = 0x19;
+
+pub const IFE: u32 = 0x1c;
 
 pub const ELS: u32 = 0x20;
 
@@ -63,6 +65,13 @@ const THREE_WIDE: u64 = 0x0282_4000;
 
 // m33, m44 and m34.
 const MATRICES: u64 = 0x0380_0000;
+
+// All that are listed but matrices, openers, els, eif, kil and tex: a destination and one or two sources of one register, in every stage, and
+// no rule of its own but 15.
+const ORDINARY: u64 = 0x3600_0C7F_FFFF;
+
+// Those of them that edition 1 has.
+const FIRST_ORDINARY: u64 = 0x3600_007F_FFFF;
 
 // Whether an opcode is in a set.
 pub fn among(set: u64, opcode: u32) -> bool
@@ -114,7 +123,7 @@ fn second_source(opcode: u32, used: bool) -> OperandShape
 pub fn flow_of(opcode: u32) -> Flow
     ensures { λ r. ⌜ r ≡ flowOf opcode ⌝ }
 {
-    if among(OPENERS, opcode) {
+    if is_opener(opcode) {
         return Flow::Opener;
     }
     if opcode == ELS {
@@ -124,6 +133,30 @@ pub fn flow_of(opcode: u32) -> Flow
         return Flow::Eif;
     }
     Flow::Plain
+}
+
+pub fn is_opener(opcode: u32) -> bool
+    ensures { λ r. ⌜ r ≡ isOpener opcode ⌝ }
+{
+    among(OPENERS, opcode)
+}
+
+// Whether it is an opener, els or eif: they stand one after another.
+pub fn is_branch(opcode: u32) -> bool
+    ensures { λ r. ⌜ r ≡ isBranch opcode ⌝ }
+{
+    (IFE <= opcode) & (opcode <= EIF)
+}
+
+// The set of the ordinary opcodes of an edition.
+pub fn ordinary(edition: u32) -> u64
+    ensures { λ r. ⌜ r ≡ ordinarySet edition ⌝ }
+{
+    if edition == 1 {
+        FIRST_ORDINARY
+    } else {
+        ORDINARY
+    }
 }
 
 // Whether edition 1 does not have an opcode.

@@ -95,7 +95,7 @@ module _ (count : ℕ → ℕ) (stage : ℕ) where
   destination-named (Masked r) e = writable-named (r .kind) stage (not-false _ (none-of _ _ e .0))
 
   sampler-named : (s : Sampler) → samplerWrong count s ≡ false → not (settingsWrong s) ≡ true
-  sampler-named s e = ap not (or-right (leb (count 5) (s .number)) (settingsWrong s) e)
+  sampler-named s e = ap not (none-of (leb (count 5) (s .number)) (settingsWrong s) e .1)
 
   source-named : (rows : ℕ) (swizzled : ℕ → Bool) (part : ℕ) (o : Operand) → AllKept (sourceRules count stage rows swizzled part o) → operandHasNames o ≡ true
   source-named rows swizzled part NoOperand k = refl

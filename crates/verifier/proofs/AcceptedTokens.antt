@@ -12,7 +12,7 @@ use Rattle.bytecode.specs.Decode.{tokenFault, decodeOf}
 use Rattle.bytecode.specs.declared.answers.Decoded.the-variants.{Token as Decodes}
 use Rattle.bytecode.proofs.DecodeLaws.{no-faults}
 use Rattle.registers.specs.Counts.{countOf}
-use Rattle.paths.specs.Nesting.{isOutOfPlace}
+use Rattle.paths.specs.Nesting.{misplacedAt}
 use Rattle.paths.specs.Faults.{tokenFaultAt, Clean, Faultless}
 use Rattle.layout.specs.Programs.{stageOf, tokenCount, tokenAt}
 use Rattle.bytecode.specs.Fields.{recordOf}
@@ -69,7 +69,7 @@ module _ (edition : ℕ) (bytes : List ℕ) where
     clean : (n : ℕ) → n < tokenCount bytes → Clean (tokensOf edition bytes) n
     clean n h = told .1 .0 n (rw (length-tokens 0 (tokenCount bytes)) h)
 
-    pub well-placed : (n : ℕ) → n < tokenCount bytes → isOutOfPlace (tokensOf edition bytes) n ≡ false
+    pub well-placed : (n : ℕ) → n < tokenCount bytes → misplacedAt (tokensOf edition bytes) n ≡ false
     well-placed n h = clean n h .1
 
     pub rules-kept : (n : ℕ) → n < tokenCount bytes → AllKept (tokenRules count edition (stageOf bytes) (tokenAt bytes n))

@@ -1,34 +1,36 @@
 -- What is known at a glance of a token is what its step does.
 -- Assumes nothing.
 use Prim.Native.Nat.{ℕ, _+_, _-_, _≤_}
-use mathlib.Core.Bool.{Bool, true, false, cond, false≢true}
+use mathlib.Core.Bool.{Bool, true, false, false≢true}
 use mathlib.Core.List.{List}
 use mathlib.Core.Path.{_≡_, refl, _∙_, sym, ap, ap₂}
 use native.Mathlib.Omega.{arith}
 use borrow.Author.Tests.{eq-eqb}
-use Rattle.bytecode.specs.Decode.{refusal, noRefusal, isClean}
+use Rattle.bytecode.specs.Decode.{noRefusal, isClean}
 use Rattle.bytecode.specs.Fields.{fieldsOf}
 use Rattle.layout.specs.Opcodes.{shapeOf, flowOf}
 use Rattle.layout.specs.Records.{registerOf, tokenOf}
 use Rattle.layout.specs.declared.fields.Fields.{Fields}
 use Rattle.layout.specs.declared.opcodes.Flow.{Flow}
 use Rattle.layout.specs.declared.opcodes.Flow.the-variants.{Plain, Opener, Els, Eif}
-use Rattle.layout.specs.declared.record.Destination.the-variants.{Unused as NoDestination}
 use Rattle.layout.specs.declared.record.Token.{Token}
-use Rattle.layout.proofs.OpcodeSets.{no-branch}
 use Rattle.layout.specs.Programs.{tokenAt}
-use Rattle.components.specs.Access.{lacksAccess, access1Of, access2Of, openerUnwritten}
+use Rattle.layout.proofs.OpcodeLists.{plain-flow}
+use Rattle.components.specs.Access.{lacksAccess, access1Of, access2Of}
+use Rattle.components.specs.QuickTests.{openerMayReadUnwritten}
+use Rattle.components.specs.ReadsWritten.{ReadsWritten}
 use Rattle.components.specs.declared.written.Written.{Written}
+use Rattle.components.proofs.AccessLaws.{lacks-reads1, lacks-reads2}
 use Rattle.faults.specs.Faults.{ownFault}
-use Rattle.faults.specs.Plain.{usableOf, isPlainBranch}
+use Rattle.faults.specs.LawfulTests.{usableOf, isLawfulBranch}
 use Rattle.faults.specs.Profile.{profileOf}
-use Rattle.faults.specs.declared.plain.Usable.{Usable}
+use Rattle.faults.specs.declared.lawful.Usable.{Usable}
 use Rattle.faults.specs.declared.profile.Profile.{Profile}
-use Rattle.faults.proofs.PlainBranch.{PlainBranch, plain-branch}
-use Rattle.faults.proofs.PlainToken.{PlainToken}
+use Rattle.faults.proofs.LawfulBranch.{LawfulBranch, lawful-branch}
+use Rattle.faults.proofs.LawfulToken.{LawfulToken}
 use Rattle.verifier.specs.Glance.{passedUnless, Whenever, Passes, opensUnwritten, branchStep, KnownBranch}
-use Rattle.verifier.specs.State.{isOutOfPlace, isMisplaced, metState, partedState, withCurrent, withFault, writtenBy, wroteState}
-use Rattle.verifier.specs.Step.{faultOfFields, nextOf, followOf, stepOf}
+use Rattle.verifier.specs.State.{isOutOfPlace, isMisplaced, metState, partedState, withCurrent, writtenBy, wroteState}
+use Rattle.verifier.specs.Step.{faultOfFields, followOf, stepOf}
 use Rattle.verifier.specs.Steps.{stepsOver}
 use Rattle.verifier.specs.declared.glance.Passed.{Passed}
 use Rattle.verifier.specs.declared.state.Branch.{Branch}
@@ -44,6 +46,13 @@ not-els e = let z : _≡_ {A = ℕ} 0 1 = cc in omega arith
 
 not-eif : Opener ≡ Eif → ⊥
 not-eif e = let z : _≡_ {A = ℕ} 0 1 = cc in omega arith
+
+-- what a token reads that reads nothing unwritten, as the code asks for it
+right1 : (w : Written) (f : Fields) → ReadsWritten w f → lacksAccess w (access1Of (tokenOf (shapeOf (f .opcode)) f)) ≡ false
+right1 w f reads = sym (lacks-reads1 w (tokenOf (shapeOf (f .opcode)) f)) ∙ reads .0
+
+right2 : (w : Written) (f : Fields) → ReadsWritten w f → lacksAccess w (access2Of (tokenOf (shapeOf (f .opcode)) f)) ≡ false
+right2 w f reads = sym (lacks-reads2 w (tokenOf (shapeOf (f .opcode)) f)) ∙ reads .1
 
 module _ (st : State) (sound : st .fault .number ≡ 0) (token : ℕ) where
   -- a token that decode takes and that has none of faults 10 to 19
@@ -61,16 +70,16 @@ module _ (st : State) (sound : st .fault .number ≡ 0) (token : ℕ) where
       ∙ ap (λ f. byTests st token t (isMisplaced st f) (lacksAccess (metState st f .current) (access1Of t)) (lacksAccess (metState st f .current) (access2Of t))) e
       ∙ rw (m, a, b) (ap (λ f. partedState (wroteState (metState st f) (t .destination)) f token) e)
 
-  passes : (edition stage : ℕ) (unwritten : Written → Fields → Bool) (f : Fields) → PlainToken edition stage unwritten f → unwritten (st .current) f ≡ false
+  passes : (edition stage : ℕ) (unwritten : Written → Fields → Bool) (f : Fields) → LawfulToken edition stage unwritten f → unwritten (st .current) f ≡ false
       → stepOf st (profileOf edition stage) token f ≡ withCurrent st (writtenBy (st .current) (registerOf (f .destination)))
   unfolding tokenOf
   passes edition stage unwritten f p l =
       taken edition stage f (p .clean) (p .right token)
-      ∙ follow-right (tokenOf (shapeOf (f .opcode)) f) Plain (no-branch (f .opcode) (λ a b. p .flow a (omega (arith, b)))) refl (p .written1 (st .current) l) (p .written2 (st .current) l)
+      ∙ follow-right (tokenOf (shapeOf (f .opcode)) f) Plain (plain-flow (f .opcode) (p .flow)) refl (right1 (st .current) f (p .reads (st .current) l)) (right2 (st .current) f (p .reads (st .current) l))
       ∙ ap (λ d. wroteState st d) (p .destination)
 
   -- the token of a branch that is in its place
-  goes-by : (edition stage : ℕ) (f : Fields) → PlainBranch edition stage f → (flow : Flow) → flowOf (f .opcode) ≡ flow
+  goes-by : (edition stage : ℕ) (f : Fields) → LawfulBranch edition stage f → (flow : Flow) → flowOf (f .opcode) ≡ flow
       → isMisplaced st flow ≡ false → opensUnwritten flow (st .current) f ≡ false
       → stepOf st (profileOf edition stage) token f ≡ partedState (metState st flow) flow token
   unfolding tokenOf
@@ -79,8 +88,8 @@ module _ (st : State) (sound : st .fault .number ≡ 0) (token : ℕ) where
       ∙ follow-right (tokenOf (shapeOf (f .opcode)) f) flow e m (reads flow e l .0) (reads flow e l .1)
       ∙ ap (λ d. partedState (wroteState (metState st flow) d) flow token) (p .destination)
     where
-      written : (w : Written) → (flowOf (f .opcode) ≡ Opener → openerUnwritten w f ≡ false) → (lacksAccess w (access1Of (tokenOf (shapeOf (f .opcode)) f)) ≡ false) × (lacksAccess w (access2Of (tokenOf (shapeOf (f .opcode)) f)) ≡ false)
-      written w unless = (p .written1 w unless, p .written2 w unless)
+      written : (w : Written) → (flowOf (f .opcode) ≡ Opener → openerMayReadUnwritten w f ≡ false) → (lacksAccess w (access1Of (tokenOf (shapeOf (f .opcode)) f)) ≡ false) × (lacksAccess w (access2Of (tokenOf (shapeOf (f .opcode)) f)) ≡ false)
+      written w unless = (right1 w f (p .reads w unless), right2 w f (p .reads w unless))
 
       reads : (flow : Flow) → flowOf (f .opcode) ≡ flow → opensUnwritten flow (st .current) f ≡ false
           → (lacksAccess (metState st flow .current) (access1Of (tokenOf (shapeOf (f .opcode)) f)) ≡ false) × (lacksAccess (metState st flow .current) (access2Of (tokenOf (shapeOf (f .opcode)) f)) ≡ false)
@@ -89,8 +98,8 @@ module _ (st : State) (sound : st .fault .number ≡ 0) (token : ℕ) where
       reads Els e l = written (metState st Els .current) (λ o. absurd (not-els (sym o ∙ e)))
       reads Eif e l = written (metState st Eif .current) (λ o. absurd (not-eif (sym o ∙ e)))
 
--- what the code answers of a plain token
-passed : (edition stage : ℕ) (unwritten : Written → Fields → Bool) (f : Fields) → PlainToken edition stage unwritten f
+-- what the code answers of a lawful token
+passed : (edition stage : ℕ) (unwritten : Written → Fields → Bool) (f : Fields) → LawfulToken edition stage unwritten f
     → (current : Written) (b : Bool) → b ≡ unwritten current f → (r : Passed) → r ≡ passedUnless b current f → r .known ≡ true
     → (st : State) → st .fault .number ≡ 0 → st .current ≡ current → (token : ℕ) → stepOf st (profileOf edition stage) token f ≡ withCurrent st (r .current)
 passed edition stage unwritten f p current true u r e k st sound at token = absurd (false≢true (sym (ap (λ r. r .known) e) ∙ k))
@@ -98,9 +107,9 @@ passed edition stage unwritten f p current false u r e k st sound at token =
     passes st sound token edition stage unwritten f p (ap (λ w. unwritten w f) at ∙ sym u)
     ∙ ap (λ w. withCurrent st w) (ap (λ w. writtenBy w (registerOf (f .destination))) at ∙ sym (ap (λ r. r .current) e))
 
--- By a test that tells plain tokens, with the test that goes with it of what they read: `told` and `asked` are what the code was answered.
+-- By a test that tells lawful tokens, with the test that goes with it of what they read: `told` and `asked` are what the code was answered.
 module _ (f : Fields) (test : Profile → Usable → Bool) (unwritten : Written → Fields → Bool)
-    (law : (edition stage : ℕ) → test (profileOf edition stage) (usableOf (profileOf edition stage)) ≡ true → PlainToken edition stage unwritten f) where
+    (law : (edition stage : ℕ) → test (profileOf edition stage) (usableOf (profileOf edition stage)) ≡ true → LawfulToken edition stage unwritten f) where
   pub passes-by : (profile : Profile) (usable : Usable) (told : Bool) → told ≡ test profile usable → told ≡ true
       → (current : Written) (asked : Bool) → asked ≡ unwritten current f → (r : Passed) → r ≡ passedUnless asked current f → r .known ≡ true → Passes profile usable current f (r .current)
   passes-by profile usable told tells holds current asked asks r made known edition stage of used st sound at token =
@@ -108,12 +117,12 @@ module _ (f : Fields) (test : Profile → Usable → Bool) (unwritten : Written 
       (law edition stage (ap₂ test (sym of) (sym (used ∙ ap usableOf of)) ∙ sym tells ∙ holds))
       current asked asks r made known st sound at token
 
--- what the code answers of a branch: its flow, where it is plain, in its place and reads nothing unwritten
+-- what the code answers of a branch: its flow, where it is lawful, in its place and reads nothing unwritten
 pub branch-known : (profile : Profile) (usable : Usable) (depth : ℕ) (innermost : Branch) (current : Written) (f : Fields) (flow : Flow)
-    → isPlainBranch profile usable f ≡ true → flow ≡ flowOf (f .opcode) → isOutOfPlace flow depth (innermost .«els_met») ≡ false → opensUnwritten flow current f ≡ false
+    → isLawfulBranch profile usable f ≡ true → flow ≡ flowOf (f .opcode) → isOutOfPlace flow depth (innermost .«els_met») ≡ false → opensUnwritten flow current f ≡ false
     → KnownBranch profile usable depth innermost current f flow
-branch-known profile usable depth innermost current f flow plain is m l edition stage of used st sound at deep inner token =
-    let p = plain-branch edition stage f (ap₂ (λ p u. isPlainBranch p u f) (sym of) (sym (used ∙ ap usableOf of)) ∙ plain) in
+branch-known profile usable depth innermost current f flow lawful is m l edition stage of used st sound at deep inner token =
+    let p = lawful-branch edition stage f (ap₂ (λ p u. isLawfulBranch p u f) (sym of) (sym (used ∙ ap usableOf of)) ∙ lawful) in
     by-flow flow (goes-by st sound token edition stage f p flow (sym is) (ap₂ (λ d b. isOutOfPlace flow d (b .«els_met»)) deep inner ∙ m) (ap (λ w. opensUnwritten flow w f) at ∙ l))
   where
     by-flow : (flow : Flow) {next : State} → next ≡ partedState (metState st flow) flow token → branchStep flow st token next

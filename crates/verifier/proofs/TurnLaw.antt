@@ -8,7 +8,7 @@ use Rattle.bytecode.specs.Fields.{fieldsOf}
 use Rattle.layout.specs.Programs.{tokenAt}
 use Rattle.layout.specs.declared.fields.Fields.{Fields}
 use Rattle.layout.specs.declared.opcodes.Flow.{Flow}
-use Rattle.faults.specs.declared.plain.Usable.{Usable}
+use Rattle.faults.specs.declared.lawful.Usable.{Usable}
 use Rattle.faults.specs.declared.profile.Profile.{Profile}
 use Rattle.verifier.specs.Glance.{RunsOver, branchStep, KnownBranch, CanJudge}
 use Rattle.verifier.specs.State.{startState, withCurrent}

@@ -8,11 +8,11 @@ use Rattle.layout.specs.Records.{registerOf}
 use Rattle.layout.specs.declared.fields.Fields.{Fields}
 use Rattle.layout.specs.declared.opcodes.Flow.{Flow}
 use Rattle.layout.specs.declared.opcodes.Flow.the-variants.{Plain, Opener, Els, Eif}
-use Rattle.components.specs.Access.{openerUnwritten}
+use Rattle.components.specs.QuickTests.{openerMayReadUnwritten}
 use Rattle.components.specs.declared.written.Written.{Written}
-use Rattle.faults.specs.Plain.{usableOf}
+use Rattle.faults.specs.LawfulTests.{usableOf}
 use Rattle.faults.specs.Profile.{profileOf}
-use Rattle.faults.specs.declared.plain.Usable.{Usable}
+use Rattle.faults.specs.declared.lawful.Usable.{Usable}
 use Rattle.faults.specs.declared.profile.Profile.{Profile}
 use Rattle.verifier.specs.State.{withCurrent, exchangedState, joinedState, openedState, writtenBy}
 use Rattle.verifier.specs.Step.{stepOf}
@@ -47,7 +47,7 @@ pub record RunsOver (profile : Profile) (usable : Usable) (current : Written) (b
 -- the token of a branch reads what is not written; els and eif read nothing
 abbrev pub opensUnwritten : Flow → Written → Fields → Bool
 opensUnwritten Plain current f = false
-opensUnwritten Opener current f = openerUnwritten current f
+opensUnwritten Opener current f = openerMayReadUnwritten current f
 opensUnwritten Els current f = false
 opensUnwritten Eif current f = false
 

@@ -14,7 +14,7 @@ use crate::glance;
 use crate::places;
 use crate::state;
 use crate::state::State;
-use faults::plain::Usable;
+use faults::lawful::Usable;
 use faults::profile::Profile;
 use layout::opcodes;
 use layout::opcodes::Flow;

@@ -8,9 +8,9 @@ ghost use Rattle.verifier.specs.Glance.{Passes, passedUnless, RunsOver, 
 use crate::places;
 use crate::state;
 use crate::state::Branch;
-use components::plain;
+use components::quick;
 use components::written::Written;
-use faults::plain::Usable;
+use faults::lawful::Usable;
 use faults::profile::Profile;
 use layout::fields::Fields;
 use layout::opcodes;
@@ -61,24 +61,24 @@ fn pass(profile: Profile, usable: Usable, current: Written, f: Fields) -> Passed
     ensures { λ r. ⌜ (r .known ≡ true → Passes profile usable current f (r .current)) ⌝ }
 {
     // Branches end a run; they are told first, since none of the tests below passes them.
-    if (0x1c <= f.opcode) & (f.opcode < 0x22) {
+    if opcodes::is_branch(f.opcode) {
         return unknown(current);
     }
     // D is the same bit of both fields, so one test asks for both. Of a sampler it is a bit of the filter, which no right sampler has set.
     if layout::is_indexed(f.source1 | f.source2) {
-        if faults::is_plain_indexed(usable, f) {
-            return passed_unless(plain::indexed_unwritten(current, f), current, f);
+        if faults::is_lawful_indexed(usable, f) {
+            return passed_unless(quick::indexed_may_read_unwritten(current, f), current, f);
         }
         return unknown(current);
     }
-    if faults::is_plain(usable, f) {
-        return passed_unless(plain::plain_unwritten(current, f), current, f);
+    if faults::is_lawful(usable, f) {
+        return passed_unless(quick::may_read_unwritten(current, f), current, f);
     }
-    if faults::is_plain_matrix(usable, f) {
-        return passed_unless(plain::matrix_unwritten(current, f), current, f);
+    if faults::is_lawful_matrix(usable, f) {
+        return passed_unless(quick::matrix_may_read_unwritten(current, f), current, f);
     }
-    if faults::is_plain_tex(profile, usable, f) {
-        return passed_unless(plain::tex_unwritten(current, f), current, f);
+    if faults::is_lawful_tex(profile, usable, f) {
+        return passed_unless(quick::tex_may_read_unwritten(current, f), current, f);
     }
     unknown(current)
 }
@@ -92,7 +92,7 @@ fn unknown(current: Written) -> Passed
     }
 }
 
-// A plain token is passed unless it may read what is not written.
+// A lawful token is passed unless it may read what is not written.
 fn passed_unless(unwritten: bool, current: Written, f: Fields) -> Passed
     ensures { λ r. ⌜ r ≡ passedUnless unwritten current f ⌝ }
 {
@@ -117,7 +117,7 @@ pub(crate) fn known_branch(
 ) -> Flow
     ensures { λ r. ⌜ KnownBranch profile usable depth innermost current f r ⌝ }
 {
-    if !faults::is_plain_branch(profile, usable, f) {
+    if !faults::is_lawful_branch(profile, usable, f) {
         return Flow::Plain;
     }
     let flow = opcodes::flow_of(f.opcode);
@@ -136,7 +136,7 @@ fn reads_unwritten(flow: Flow, current: Written, f: Fields) -> bool
 {
     match flow {
         Flow::Plain => false,
-        Flow::Opener => plain::opener_unwritten(current, f),
+        Flow::Opener => quick::opener_may_read_unwritten(current, f),
         Flow::Els => false,
         Flow::Eif => false,
     }

@@ -7,8 +7,8 @@ use borrow.Author.Needs.{needs}
 use Rattle.verifier.proofs.glance.known_branch.Statement.{statement}
 use Rattle.verifier.proofs.glance.known_branch.Tie as tie
 
-is-plain-branch-requires : tie.Need-is-plain-branch-requires
-is-plain-branch-requires c κs = search needs
+is-lawful-branch-requires : tie.Need-is-lawful-branch-requires
+is-lawful-branch-requires c κs = search needs
 
 returns : tie.Need-returns
 returns c = search needs
@@ -32,7 +32,7 @@ returns-4 : tie.Need-returns-4
 returns-4 c =
     let a = c .before .before .before .before .before .before .before .args in
     branch-known (a .profile) (a .usable) (a .depth) (a .innermost) (a .current) (a .f) _
-    (sym (c .before .before .before .before .before .before .is-plain-branch .ensures) ∙ not-false _ (c .before .before .before .before .before .if1 .left))
+    (sym (c .before .before .before .before .before .before .is-lawful-branch .ensures .0) ∙ not-false _ (c .before .before .before .before .before .if1 .left))
     (c .before .before .before .before .flow-of .ensures)
     (sym (c .before .before .before .is-misplaced .ensures) ∙ c .before .before .if2 .left)
     (sym (c .before .reads-unwritten .ensures) ∙ c .if3 .left)
@@ -41,7 +41,7 @@ pub known-branch-spec : {M : Type 1} → statement M
 known-branch-spec =
     tie.close
     (tie.spec
-    is-plain-branch-requires
+    is-lawful-branch-requires
     returns
     flow-of-requires
     is-misplaced-requires

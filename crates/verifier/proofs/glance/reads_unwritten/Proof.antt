@@ -10,8 +10,8 @@ enum-told c = search needs
 enum-told-2 : tie.Need-enum-told-2
 enum-told-2 c = search needs
 
-opener-unwritten-requires : tie.Need-opener-unwritten-requires
-opener-unwritten-requires c κs = search needs
+opener-may-read-unwritten-requires : tie.Need-opener-may-read-unwritten-requires
+opener-may-read-unwritten-requires c κs = search needs
 
 enum-told-3 : tie.Need-enum-told-3
 enum-told-3 c = search needs
@@ -23,7 +23,7 @@ returns : tie.Need-returns
 returns c = search needs
 
 returns-2 : tie.Need-returns-2
-returns-2 c = simp (c .before .enum-told2 .given .1, c .opener-unwritten .ensures)
+returns-2 c = simp (c .before .enum-told2 .given .1, c .opener-may-read-unwritten .ensures .0)
 
 returns-3 : tie.Need-returns-3
 returns-3 c = search needs
@@ -37,7 +37,7 @@ reads-unwritten-spec =
     (tie.spec
     enum-told
     enum-told-2
-    opener-unwritten-requires
+    opener-may-read-unwritten-requires
     enum-told-3
     enum-told-4
     returns

@@ -1,0 +1,25 @@
+-- `opener_may_read_unwritten` meets its contract.
+-- Assumes nothing.
+use Rattle.components.specs.QuickTests.{openerMayReadUnwritten}
+use Rattle.components.specs.ReadsWritten.{OpenerReads}
+use Rattle.components.proofs.QuickLaws.{with-meaning, opener-reads}
+use borrow.Author.Needs.{needs}
+use Rattle.components.proofs.quick.opener_may_read_unwritten.Statement.{statement}
+use Rattle.components.proofs.quick.opener_may_read_unwritten.Tie as tie
+
+direct-lacks-requires : tie.Need-direct-lacks-requires
+direct-lacks-requires c κs = search needs
+
+direct-lacks-requires-2 : tie.Need-direct-lacks-requires-2
+direct-lacks-requires-2 c κs = search needs
+
+returns : tie.Need-returns
+unfolding openerMayReadUnwritten
+returns c =
+    let a = c .before .before .args in
+    with-meaning (λ r. OpenerReads r (a .current) (a .f)) _ (openerMayReadUnwritten (a .current) (a .f)) (
+    simp (c .direct-lacks2 .ensures, c .before .direct-lacks .ensures)
+    ) (opener-reads (a .current) (a .f))
+
+pub opener-may-read-unwritten-spec : {M : Type 1} → statement M
+opener-may-read-unwritten-spec = tie.close (tie.spec direct-lacks-requires direct-lacks-requires-2 returns)
