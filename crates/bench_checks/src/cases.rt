@@ -7,6 +7,7 @@ use crate::hex;
 use crate::lines;
 use crate::print;
 use crate::programs;
+use crate::swizzles;
 
 pub fn run(text: &[u8]) {
     let mut at = 0;
@@ -50,6 +51,7 @@ fn case(line: &[u8]) {
         b'l' => lines::listed(&bytes[..n]),
         b'c' => programs::checked(&bytes[..n]),
         b'r' => programs::repeated(&mut bytes, n),
+        b's' => swizzles::named(&bytes[..n]),
         _ => print::text(b"no such case\n"),
     }
 }

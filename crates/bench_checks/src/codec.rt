@@ -88,13 +88,14 @@ fn sampler(s: Sampler) {
     print::number(s.wrap as u64);
     print::number(s.mipmap as u64);
     print::number(s.filter as u64);
-    if s.bias < 0 {
-        print::text(b" negative");
-    }
+    bias(s);
+}
+
+// The float by its bits, so that no two floats print alike.
+fn bias(s: Sampler) {
     let eighth = bytecode::bias(s);
-    if eighth * 8.0 == s.bias as f32 {
-        print::text(b" exact");
-    }
+    print::text(b" bias ");
+    print::word(f32::to_bits(eighth));
 }
 
 // Encodes a record and compares the bytes with those it was decoded from.

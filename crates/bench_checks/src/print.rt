@@ -15,6 +15,10 @@ pub fn number(n: u64) {
     io::print_decimal(STDOUT_FILENO, n);
 }
 
+pub fn word(n: u32) {
+    io::print_hex(STDOUT_FILENO, n as u64, 8);
+}
+
 pub fn refusal(r: Refusal) {
     text(b"refused");
     number(r.number as u64);

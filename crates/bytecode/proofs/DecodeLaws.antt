@@ -43,7 +43,7 @@ module _ (s : List ℕ) where
   -- a fault that decode has is its answer
   refused-by : (r : Refusal) → decodeFault s ≡ r → (r .number ≡ 0 → ⊥) → Decodes s (Refused r)
   unfolding decodeOf
-  refused-by r q n = record { answer = sym (rw (q, ne-eqb (r .number) 0 n)); numbers = sym q }
+  refused-by r q n = let e = ne-eqb (r .number) 0 n in record { answer = sym (rw (q, e)); numbers = sym (rw (q, e)) }
 
   pub wrong-length : (length s ≡ 24 → ⊥) → Decodes s (Refused (refusal 24 0 0))
   unfolding decodeFault
@@ -56,7 +56,7 @@ module _ (s : List ℕ) where
   unfolding decodeOf
   no-faults h e =
       let z = by-fields h ∙ no-fault (shapeOf (fieldsOf s .opcode)) (fieldsOf s) e in
-      record { answer = sym (rw z); numbers = sym z }
+      record { answer = sym (rw z); numbers = sym (rw z) }
 
 -- ---- what a token without a fault is
 

@@ -8,6 +8,7 @@ use lib.ListN.{length}
 use Rattle.layout.specs.Opcodes.{shapeOf}
 use Rattle.layout.specs.Layout.{destinationBits, operandBits, isStray}
 use Rattle.bytecode.specs.Fields.{fieldsOf}
+use Rattle.bytecode.specs.Numbers.{foundNumbers, decodedNumbers}
 use Rattle.layout.specs.Records.{tokenOf}
 use Rattle.layout.specs.declared.opcodes.Shape.{Shape}
 use Rattle.layout.specs.declared.fields.Fields.{Fields}
@@ -22,11 +23,6 @@ refusal n t p = record { number = n; token = t; part = p }
 -- nothing is refused: all numbers are 0
 abbrev pub noRefusal : Refusal
 noRefusal = refusal 0 0 0
-
--- the paper's numbers of what decode answers
-abbrev pub decodedNumbers : Decoded → Refusal
-decodedNumbers (Accepted t) = noRefusal
-decodedNumbers (Refused r) = r
 
 -- 12: an unused field, one with no defined bit, is not 0
 abbrev pub unusedNotZero : ℕ → ℕ → Bool
@@ -80,7 +76,7 @@ decodeOf s =
     (Accepted (tokenOf (shapeOf (fieldsOf s .opcode)) (fieldsOf s)))
     (Refused (decodeFault s))
 
--- the promise of decode: its answer and the answer's numbers
+-- the promise of decode: its answer, and the numbers of its answer by the rules above
 pub record Decodes (s : List ℕ) (r : Decoded) : Type 0 where
   pub answer : r ≡ decodeOf s
-  pub numbers : decodedNumbers r ≡ decodeFault s
+  pub numbers : decodedNumbers r ≡ foundNumbers (decodeFault s) 0 0

@@ -11,6 +11,7 @@ use Rattle.layout.specs.Layout.{placed, fits}
 use Rattle.layout.specs.Opcodes.{shapeOf}
 use Rattle.bytecode.specs.Fields.{bytesOf}
 use Rattle.bytecode.specs.Decode.{refusal, noRefusal}
+use Rattle.bytecode.specs.Numbers.{foundNumbers, encodedNumbers}
 use Rattle.layout.specs.declared.opcodes.OperandShape.{OperandShape}
 use Rattle.layout.specs.declared.opcodes.OperandShape.the-variants.{Unused as NoField, Source as SourceField, Sampler as SamplerField}
 use Rattle.layout.specs.declared.fields.Fields.{Fields}
@@ -169,11 +170,6 @@ tokenBytes t = bytesOf (tokenFields t)
 
 -- ---- encode
 
--- the paper's numbers of what encode answers
-abbrev pub encodedNumbers : Encoded → Refusal
-encodedNumbers Written = noRefusal
-encodedNumbers (Refused r) = r
-
 -- 25 where the record is not encodable, then 23 where the lent buffer is shorter than 24 bytes
 unfoldable pub encodeFault : Token → List ℕ → Refusal
 encodeFault t buffer =
@@ -186,8 +182,8 @@ encodeOf t buffer = cond (eqb (encodeFault t buffer .number) 0) Written (Refused
 unfoldable pub afterEncode : Token → List ℕ → List ℕ
 afterEncode t buffer = cond (eqb (encodeFault t buffer .number) 0) (tokenBytes t ++ drop 24 buffer) buffer
 
--- the promise of encode: its answer, the answer's numbers and the buffer afterwards
+-- the promise of encode: its answer, the numbers of its answer by the rules above, and the buffer afterwards
 pub record Encodes (t : Token) (before after : List ℕ) (r : Encoded) : Type 0 where
   pub answer : r ≡ encodeOf t before
-  pub numbers : encodedNumbers r ≡ encodeFault t before
+  pub numbers : encodedNumbers r ≡ foundNumbers (encodeFault t before) 0 0
   pub buffer : after ≡ afterEncode t before

@@ -5,10 +5,17 @@ use mathlib.Core.List.{List, _++_}
 use lib.Dec.{ltb}
 use lib.ListN.{length, set}
 use Rattle.layout.specs.Layout.{wordAt, longAt, wordBytes}
+use Rattle.layout.specs.Opcodes.{shapeOf}
+use Rattle.layout.specs.Records.{tokenOf}
 use Rattle.layout.specs.declared.fields.Fields.{Fields}
+use Rattle.layout.specs.declared.record.Token.{Token}
 
 abbrev pub fieldsOf : List ℕ → Fields
 fieldsOf s = record { opcode = wordAt s 0; destination = wordAt s 4; source1 = longAt s 8; source2 = longAt s 16 }
+
+-- the record of a token's bytes, whatever its faults
+abbrev pub recordOf : List ℕ → Token
+recordOf s = tokenOf (shapeOf (fieldsOf s .opcode)) (fieldsOf s)
 
 -- the fields of 24 bytes or more; all 0 where there are fewer
 unfoldable pub fieldsIn : List ℕ → Fields

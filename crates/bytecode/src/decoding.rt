@@ -1,10 +1,11 @@
 // Decode: a record from 24 bytes, or the first fault.
 ghost use mathlib.Core.Path.{_≡_};
-ghost use Rattle.bytecode.specs.Decode.{Decodes, isClean, tokenFault, unusedNotZero, undefinedBitSet, unusedPart, undefinedPart, lowestPart, refusal};
+ghost use Rattle.bytecode.specs.Decode.{Decodes, isClean, tokenFault, unusedNotZero, undefinedBitSet, unusedPart, undefinedPart, lowestPart};
 ghost use Rattle.layout.specs.Records.{tokenOf};
 use crate::answers::Decoded;
 use crate::answers::Refusal;
 use crate::fields;
+use crate::refusals;
 use layout::bits;
 use layout::fields::Fields;
 use layout::opcodes;
@@ -15,7 +16,7 @@ pub fn decode(bytes: &[u8]) -> Decoded
     ensures { λ r. ⌜ Decodes (now (bytes .entry)) r ⌝ }
 {
     if bytes.len() != 24 {
-        return Decoded::Refused(refused(24, 0));
+        return Decoded::Refused(refusals::refusal(24, 0, 0));
     }
     let f = fields::read_fields(bytes);
     let shape = opcodes::shape_of(f.opcode);
@@ -46,17 +47,17 @@ pub fn fault_of(shape: Shape, f: Fields) -> Refusal
     ensures { λ r. ⌜ r ≡ tokenFault shape f ⌝ }
 {
     if !shape.listed {
-        return refused(9, 0);
+        return refusals::refusal(9, 0, 0);
     }
     let unused = unused_part(shape, f);
     if unused != 0 {
-        return refused(12, unused);
+        return refusals::refusal(12, 0, unused);
     }
     let undefined = undefined_part(shape, f);
     if undefined != 0 {
-        return refused(13, undefined);
+        return refusals::refusal(13, 0, undefined);
     }
-    refused(0, 0)
+    refusals::refusal(0, 0, 0)
 }
 
 // Whether the opcode is listed and no field has a stray bit. Most tokens are clean, so it is tested before a fault is looked for.
@@ -125,16 +126,5 @@ fn lowest(destination: bool, source1: bool, source2: bool) -> u8
         3
     } else {
         0
-    }
-}
-
-// Outside the whole check a refusal's token is 0.
-pub(crate) fn refused(number: u8, part: u8) -> Refusal
-    ensures { λ r. ⌜ r ≡ refusal number 0 part ⌝ }
-{
-    Refusal {
-        number,
-        token: 0,
-        part,
     }
 }

@@ -6,6 +6,7 @@ mod encoding;
 mod fields;
 mod fits;
 mod pack;
+mod refusals;
 
 pub use biases::bias;
 pub use decoding::decode;
@@ -15,3 +16,4 @@ pub use encoding::encode;
 pub use fields::fields_of;
 pub use fits::encodable;
 pub use pack::unsigned_byte;
+pub use refusals::refusal;

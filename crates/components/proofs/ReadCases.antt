@@ -55,8 +55,8 @@ cases =
     ∷ (token 0x00 (to 0 0x8) (from 2 1 0x1b) NoOperand, (4 ∷ [], [], 3 ∷ []))
     -- nrm vt0.x vt1.xyzw: three selectors, whatever the mask
     ∷ (token 0x0e (to 0 0x1) (from 2 1 0xe4) NoOperand, (4 ∷ 5 ∷ 6 ∷ [], [], 0 ∷ []))
-    -- crs vt0.x vt1.xyzw vt2.yyyw
-    ∷ (token 0x11 (to 0 0x1) (from 2 1 0xe4) (from 2 2 0xd5), (4 ∷ 5 ∷ 6 ∷ [], 9 ∷ [], 0 ∷ []))
+    -- crs vt0.x vt1.xyzw vt2.xyzw: the same of both sources
+    ∷ (token 0x11 (to 0 0x1) (from 2 1 0xe4) (from 2 2 0xe4), (4 ∷ 5 ∷ 6 ∷ [], 8 ∷ 9 ∷ 10 ∷ [], 0 ∷ []))
     -- dp3 vt0.x vt1.xyzw vt2.wxyz
     ∷ (token 0x12 (to 0 0x1) (from 2 1 0xe4) (from 2 2 0x93), (4 ∷ 5 ∷ 6 ∷ [], 8 ∷ 9 ∷ 11 ∷ [], 0 ∷ []))
     -- dp4 vt0.x vt1.xyzw vt2.xyzw

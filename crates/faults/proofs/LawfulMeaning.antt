@@ -6,7 +6,7 @@ use mathlib.Core.Option.{Option, none, some}
 use mathlib.Core.Path.{_≡_, refl, _∙_, ap, sym, subst}
 use native.Mathlib.Omega.{arith}
 use Rattle.bytecode.specs.Decode.{noRefusal, isClean}
-use Rattle.bytecode.specs.Fields.{fieldsOf}
+use Rattle.bytecode.specs.Fields.{fieldsOf, recordOf}
 use Rattle.bytecode.proofs.DecodeLaws.{clean-by, clean-none, no-faults}
 use Rattle.layout.specs.Opcodes.{shapeOf}
 use Rattle.layout.specs.Records.{tokenOf}
@@ -16,7 +16,6 @@ use Rattle.registers.specs.Counts.{countOf}
 use Rattle.faults.specs.Faults.{refusalAt}
 use Rattle.faults.specs.Lawful.{Lawful, LawfulWith, LawfulUnder}
 use Rattle.faults.specs.LawfulTests.{usableOf}
-use Rattle.faults.specs.Order.{recordOf}
 use Rattle.faults.specs.Profile.{profileOf}
 use Rattle.faults.specs.declared.lawful.Usable.{Usable}
 use Rattle.faults.specs.declared.profile.Profile.{Profile}

@@ -9,7 +9,7 @@ use native.Mathlib.Omega.{arith}
 use lib.Dec.{eqb, ltb, lit≤}
 use lib.ListN.{length}
 use Rattle.layout.specs.Opcodes.{shapeOf, rowCount2}
-use Rattle.bytecode.specs.Fields.{fieldsOf}
+use Rattle.bytecode.specs.Fields.{fieldsOf, recordOf}
 use Rattle.layout.specs.Records.{tokenOf}
 use Rattle.bytecode.specs.Decode.{refusal, noRefusal, decodeOf, tokenFault, unusedPart, undefinedPart}
 use Rattle.bytecode.specs.declared.answers.Refusal.{Refusal}
@@ -22,7 +22,7 @@ use Rattle.registers.specs.Counts.{countOf}
 use Rattle.paths.specs.Paths.{TokenFault}
 use Rattle.faults.specs.Rules.{opcodeTooNew, opcodeNotForStage, selectorsDiffer, matrixSwizzled}
 use Rattle.faults.specs.Profile.{profileOf, countIn}
-use Rattle.faults.specs.Order.{Rule, firstFault, sourceRules, recordRules, tokenRules, recordOf}
+use Rattle.faults.specs.Order.{Rule, firstFault, sourceRules, recordRules, tokenRules}
 use Rattle.faults.specs.Faults.{refusalAt, recordFault, ownFault, undecodedFault}
 use Rattle.faults.proofs.Counts.{counts-are}
 

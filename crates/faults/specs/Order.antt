@@ -1,14 +1,12 @@
 -- Document 01, "Check order": 1 to 8 as numbered, token and part 0. Then tokens in turn; each by 9 to 15 as numbered, then source 1 by 16 to
 -- 18, then source 2 by 16 to 18, or 19 for a sampler, then 20, 21. 22 comes last.
-use Prim.Native.Nat.{ℕ, zero, suc, _+_, _*_}
+use Prim.Native.Nat.{ℕ, zero, suc, _+_}
 use mathlib.Core.Bool.{Bool, not, cond}
 use mathlib.Core.List.{List, [], _∷_, _++_}
 use mathlib.Core.Option.{Option, none, some}
 use lib.Dec.{eqb}
-use lib.ListN.{take, drop}
 use Rattle.layout.specs.Opcodes.{shapeOf, rowCount2}
-use Rattle.bytecode.specs.Fields.{fieldsOf}
-use Rattle.layout.specs.Records.{tokenOf}
+use Rattle.bytecode.specs.Fields.{fieldsOf, recordOf}
 use Rattle.bytecode.specs.Decode.{unusedPart, undefinedPart}
 use Rattle.layout.specs.declared.record.Operand.{Operand}
 use Rattle.layout.specs.declared.record.Operand.the-variants.{Unused as NoOperand, Direct, Indexed, Sampler as Sampled}
@@ -16,7 +14,8 @@ use Rattle.layout.specs.declared.record.Token.{Token}
 use Rattle.registers.specs.Counts.{countOf}
 use Rattle.paths.specs.Paths.{TokenFault, PathToken}
 use Rattle.components.specs.Tokens.{pathTokenOf}
-use Rattle.faults.specs.Rules.{editionUnknown, headerMissing, firstByteWrong, versionWrong, typeIdWrong, stageOf, stageWrong, tokensNotWhole, tokenCount, tokensTooMany}
+use Rattle.layout.specs.Programs.{stageOf, tokenCount, tokenAt}
+use Rattle.faults.specs.Rules.{editionUnknown, headerMissing, firstByteWrong, versionWrong, typeIdWrong, stageWrong, tokensNotWhole, tokensTooMany}
 use Rattle.faults.specs.Rules.{opcodeTooNew, opcodeNotForStage, destinationWrong, maskWrong, indexedWrong, directWrong, selectorsDiffer, matrixSwizzled, samplerWrong}
 
 -- a rule: whether it is broken, and the number and part that it then gives
@@ -66,10 +65,6 @@ recordRules count stage t =
     ∷ (sourceRules count stage 1 (selectorsDiffer (t .opcode)) 2 (t .source1)
     ++ sourceRules count stage (rowCount2 (t .opcode)) (matrixSwizzled (t .opcode)) 3 (t .source2))
 
--- the record of a token's bytes, whatever its faults
-abbrev pub recordOf : List ℕ → Token
-recordOf s = tokenOf (shapeOf (fieldsOf s .opcode)) (fieldsOf s)
-
 -- 9 to 19 of a token's bytes
 abbrev pub tokenRules : (ℕ → ℕ) → ℕ → ℕ → List ℕ → List Rule
 tokenRules count edition stage s =
@@ -81,10 +76,6 @@ tokenRules count edition stage s =
     ∷ recordRules count stage (recordOf s)
 
 -- ---- a program
-
--- the 24 bytes of token n
-abbrev pub tokenAt : List ℕ → ℕ → List ℕ
-tokenAt bytes n = take 24 (drop (7 + n * 24) bytes)
 
 -- a token as paths see it, with the first of its faults 9 to 19
 abbrev pub pathTokenAt : (ℕ → ℕ) → ℕ → ℕ → List ℕ → PathToken

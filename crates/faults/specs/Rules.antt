@@ -1,12 +1,14 @@
 -- Document 01, "Numbers of the faults": a rule for each of faults 1 to 19. Faults 20, 21 and 22 are those of branches and paths, and stand
 -- in the crate paths (Nesting, Unwritten, Faults).
-use Prim.Native.Nat.{ℕ, _+_, _-_, _/_, _%_}
+use Prim.Native.Nat.{ℕ, _+_, _-_, _%_}
 use mathlib.Core.Bool.{Bool, false, not, _&&_, _||_}
 use mathlib.Core.List.{List}
 use lib.Dec.{eqb, ltb, leb}
 use lib.ListN.{length, getD}
 use Rattle.layout.specs.Layout.{wordAt}
 use Rattle.layout.specs.Opcodes.{kil, isAdded, isFragmentOnly, isThreeWide, isMatrix}
+use Rattle.layout.specs.Programs.{stageOf, tokenCount}
+use Rattle.layout.specs.Samplers.{settingsWrong}
 use Rattle.layout.specs.Swizzles.{bitOf, selectorsAgree}
 use Rattle.layout.specs.declared.record.Destination.{Destination}
 use Rattle.layout.specs.declared.record.Destination.the-variants.{Unused as NoDestination, Masked}
@@ -42,10 +44,6 @@ versionWrong edition bytes = not (eqb (wordAt bytes 1) (versionWord edition))
 abbrev pub typeIdWrong : List ℕ → Bool
 typeIdWrong bytes = not (eqb (getD bytes 5 0) 0xa1)
 
--- "then 00 vertex or 01 fragment"
-abbrev pub stageOf : List ℕ → ℕ
-stageOf bytes = getD bytes 6 0
-
 -- 6: wrong stage
 abbrev pub stageWrong : List ℕ → Bool
 stageWrong bytes = ltb 1 (stageOf bytes)
@@ -53,10 +51,6 @@ stageWrong bytes = ltb 1 (stageOf bytes)
 -- 7: bytes after the header not a multiple of 24
 abbrev pub tokensNotWhole : List ℕ → Bool
 tokensNotWhole bytes = not (eqb ((length bytes - 7) % 24) 0)
-
--- the token count: "the length less 7, over 24"
-abbrev pub tokenCount : List ℕ → ℕ
-tokenCount bytes = (length bytes - 7) / 24
 
 -- 8: too many tokens
 abbrev pub tokensTooMany : ℕ → List ℕ → Bool
@@ -103,8 +97,7 @@ selectorsDiffer opcode swizzle = eqb opcode kil && not (selectorsAgree swizzle)
 abbrev pub matrixSwizzled : ℕ → ℕ → Bool
 matrixSwizzled opcode swizzle = isMatrix opcode && not (eqb swizzle 0xe4)
 
--- 19: sampler: type not 5, number not below count, filter, wrap or dimension above 1, mipmap above 2, special not 0
+-- 19: sampler: number not below count, and what layout (Samplers) says of the others: "type not 5, .. filter, wrap or dimension above 1,
+-- mipmap above 2, special not 0"
 abbrev pub samplerWrong : (ℕ → ℕ) → Sampler → Bool
-samplerWrong count s =
-    not (eqb (s .kind) 5) || leb (count 5) (s .number) || ltb 1 (s .filter) || ltb 1 (s .wrap) || ltb 1 (s .dimension)
-    || ltb 2 (s .mipmap) || not (eqb (s .special) 0)
+samplerWrong count s = leb (count 5) (s .number) || settingsWrong s

@@ -6,23 +6,22 @@ ghost use Rattle.layout.specs.Layout.{wordAt};
 ghost use Rattle.faults.specs.Rules.{editionUnknown};
 ghost use Rattle.faults.specs.Header.{headerFault};
 ghost use Rattle.faults.specs.Header.{restFault};
-use crate::tokens;
 use bytecode::answers::Refusal;
 
 pub fn header_fault(edition: u32, bytes: &[u8]) -> Refusal
     ensures { λ r. ⌜ r ≡ headerFault edition (now (bytes .entry)) ⌝ }
 {
     if edition_unknown(edition) {
-        return tokens::refusal(1, 0, 0);
+        return bytecode::refusal(1, 0, 0);
     }
     if bytes.len() < 7 {
-        return tokens::refusal(2, 0, 0);
+        return bytecode::refusal(2, 0, 0);
     }
     if bytes[0] != 0xa0 {
-        return tokens::refusal(3, 0, 0);
+        return bytecode::refusal(3, 0, 0);
     }
     if version(bytes) != 1 {
-        return tokens::refusal(4, 0, 0);
+        return bytecode::refusal(4, 0, 0);
     }
     rest_fault(edition, bytes)
 }
@@ -46,17 +45,17 @@ fn rest_fault(edition: u32, bytes: &[u8]) -> Refusal
     ensures { λ r. ⌜ r ≡ restFault edition (now (bytes .entry)) ⌝ }
 {
     if bytes[5] != 0xa1 {
-        return tokens::refusal(5, 0, 0);
+        return bytecode::refusal(5, 0, 0);
     }
     if 1 < bytes[6] {
-        return tokens::refusal(6, 0, 0);
+        return bytecode::refusal(6, 0, 0);
     }
     let size = bytes.len() - 7;
     if size % 24 != 0 {
-        return tokens::refusal(7, 0, 0);
+        return bytecode::refusal(7, 0, 0);
     }
     if registers::token_limit(edition) < size / 24 {
-        return tokens::refusal(8, 0, 0);
+        return bytecode::refusal(8, 0, 0);
     }
-    tokens::refusal(0, 0, 0)
+    bytecode::refusal(0, 0, 0)
 }

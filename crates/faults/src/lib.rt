@@ -14,5 +14,4 @@ pub use lawful::is_lawful_tex;
 pub use lawful::usable_of;
 pub use profile::profile_of;
 pub use tokens::own_fault;
-pub use tokens::refusal;
 pub use tokens::undecoded_fault;

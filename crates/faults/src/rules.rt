@@ -97,11 +97,5 @@ pub(crate) fn sampler_wrong(profile: Profile, s: Sampler) -> bool
     ensures { λ r. ⌜ r ≡ samplerWrong (countIn profile) s ⌝ }
 {
     let count = profile::count_of(profile, 5);
-    (s.kind != 5)
-        | (count <= s.number)
-        | (1 < s.filter)
-        | (1 < s.wrap)
-        | (1 < s.dimension)
-        | (2 < s.mipmap)
-        | (s.special != 0)
+    (count <= s.number) | layout::settings_wrong(s)
 }

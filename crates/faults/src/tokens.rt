@@ -20,10 +20,10 @@ pub fn own_fault(profile: Profile, token: usize, shape: Shape, f: Fields) -> Ref
     ensures { λ r. ⌜ r ≡ ownFault profile token (tokenOf shape f) ⌝ }
 {
     if rules::opcode_too_new(profile.edition, f.opcode) {
-        return refusal(10, token, 0);
+        return bytecode::refusal(10, token, 0);
     }
     if rules::opcode_not_for_stage(profile.stage, f.opcode) {
-        return refusal(11, token, 0);
+        return bytecode::refusal(11, token, 0);
     }
     record_fault(profile, token, shape, f)
 }
@@ -33,15 +33,15 @@ fn record_fault(profile: Profile, token: usize, shape: Shape, f: Fields) -> Refu
     ensures { λ r. ⌜ r ≡ recordFault profile token (tokenOf shape f) ⌝ }
 {
     if rules::destination_wrong(profile, shape.destination, f.destination) {
-        return refusal(14, token, 1);
+        return bytecode::refusal(14, token, 1);
     }
     if rules::mask_wrong(f.opcode, shape.destination, f.destination) {
-        return refusal(15, token, 1);
+        return bytecode::refusal(15, token, 1);
     }
     let shape1 = shape.source1;
     let first = operand_fault(profile, false, f.opcode, 1, shape1, f.source1);
     if first != 0 {
-        return refusal(first, token, 2);
+        return bytecode::refusal(first, token, 2);
     }
     let shape2 = shape.source2;
     let second = operand_fault(
@@ -60,9 +60,9 @@ fn if_any(number: u8, token: usize, part: u8) -> Refusal
     ensures { λ r. ⌜ r ≡ cond (not (eqb number 0)) (refused number token part) noRefusal ⌝ }
 {
     if number != 0 {
-        return refusal(number, token, part);
+        return bytecode::refusal(number, token, part);
     }
-    refusal(0, 0, 0)
+    bytecode::refusal(0, 0, 0)
 }
 
 // The number of the first of 16 to 19 of an operand, or 0.
@@ -132,23 +132,13 @@ pub fn undecoded_fault(profile: Profile, token: usize, r: Refusal, opcode: u32) 
     ensures { λ f. ⌜ f ≡ undecodedFault profile token r opcode ⌝ }
 {
     if r.number < 12 {
-        return refusal(r.number, token, r.part);
+        return bytecode::refusal(r.number, token, r.part);
     }
     if rules::opcode_too_new(profile.edition, opcode) {
-        return refusal(10, token, 0);
+        return bytecode::refusal(10, token, 0);
     }
     if rules::opcode_not_for_stage(profile.stage, opcode) {
-        return refusal(11, token, 0);
+        return bytecode::refusal(11, token, 0);
     }
-    refusal(r.number, token, r.part)
-}
-
-pub fn refusal(number: u8, token: usize, part: u8) -> Refusal
-    ensures { λ r. ⌜ r ≡ refused number token part ⌝ }
-{
-    Refusal {
-        number,
-        token,
-        part,
-    }
+    bytecode::refusal(r.number, token, r.part)
 }

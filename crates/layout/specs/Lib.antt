@@ -1,6 +1,8 @@
 pub mod Layout
 pub mod Opcodes
+pub mod Programs
 pub mod Records
+pub mod Samplers
 pub mod Selections
 pub mod Sets
 pub mod Swizzles

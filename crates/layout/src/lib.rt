@@ -3,11 +3,13 @@ pub mod bits;
 pub mod fields;
 pub mod opcodes;
 pub mod record;
+mod samplers;
 pub mod selection;
 mod swizzles;
 mod unpack;
 
 pub use fields::word;
+pub use samplers::settings_wrong;
 pub use swizzles::components;
 pub use swizzles::selectors_agree;
 pub use unpack::is_indexed;

@@ -1,5 +1,6 @@
 pub mod Bytes
 pub mod Examples
+pub mod FirstMost
 pub mod LineLaws
 pub mod NameLaws
 pub mod Notation

@@ -1,12 +1,13 @@
 -- The decimal notation of a number: `decimal` is the one and only, and its digits counted from the largest unit.
 -- Assumes nothing.
-use Prim.Native.Nat.{ℕ, zero, suc, _+_, _-_, _*_, _/_, _%_, _<_, _≤_}
+use Prim.Native.Nat.{ℕ, zero, suc, _+_, _-_, _*_, _/_, _%_, _^_, _<_, _≤_}
 use mathlib.Core.Bool.{Bool}
 use mathlib.Core.List.{List, [], _∷_, _++_, append-nil, append-assoc}
 use mathlib.Core.Path.{_≡_, _∙_, sym, ap}
 use native.Mathlib.Decide.{decLt, decLe}
 use native.Mathlib.Omega.{arith}
 use lib.IntN.{ℤ}
+use lib.Pow.{pow-add}
 use borrow.Author.Tests.{lt-ltb, le-ltb, le-leb, lt-leb}
 use Rattle.listing.specs.Decimal.{digit, AreDigits, saidAfter, NoLeadingZero, IsDecimal, notation, decimal, isNegative, magnitude, signedDecimal}
 use Rattle.listing.specs.Writers.{digitAt}
@@ -31,6 +32,14 @@ one-digit n h = simp (lt-ltb n 10 h)
 pub more-digits : (n : ℕ) → 10 ≤ n → decimal n ≡ decimal (n / 10) ++ (digit (n % 10) ∷ [])
 unfolding decimal
 more-digits n h = rw (le-ltb n 10 h, enough n (suc (n / 10)) (n / 10) (omega arith) (omega arith))
+
+-- a tenth of a number has one digit less
+pub tenth-digits : (n m : ℕ) → 10 ≤ n → n < 10 ^ (m + 1) → (1 ≤ m) × (n / 10 < 10 ^ m)
+tenth-digits n m h k = let p : 10 ^ (m + 1) ≡ 10 ^ m * 10 = pow-add 10 m 1 in (several m p k, omega (arith, p, k))
+  where
+    several : (m : ℕ) → 10 ^ (m + 1) ≡ 10 ^ m * 10 → n < 10 ^ (m + 1) → 1 ≤ m
+    several zero p k = absurd (omega (arith, h, p, k))
+    several (suc m) p k = omega arith
 
 -- ---- it is a decimal notation
 

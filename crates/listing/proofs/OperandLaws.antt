@@ -1,11 +1,11 @@
 -- What is known of an operand once its case is, and the room that the operands of an encodable record take.
 -- Assumes nothing.
 use Prim.Native.Nat.{ℕ, _≤_}
-use mathlib.Core.Bool.{Bool, true, false, cond, _&&_}
+use mathlib.Core.Bool.{Bool, true, false, not, cond, _||_, false≢true}
 use mathlib.Core.Path.{_≡_, refl, _∙_, sym, ap}
 use native.Mathlib.Omega.{arith}
-use lib.Dec.{leb, eqb}
-use borrow.Author.Tests.{leb-true, eqb-true}
+use lib.Dec.{ltb, eqb}
+use borrow.Author.Tests.{leb-true, eqb-true, not-false}
 use Rattle.layout.specs.Opcodes.{isListed, rowOf, shapeOf, shapeOfRow}
 use Rattle.bytecode.specs.Encode.{isEncodable, operandFits}
 use Rattle.layout.specs.declared.opcodes.OperandShape.{OperandShape}
@@ -21,7 +21,7 @@ use Rattle.layout.specs.declared.record.Operand.{Operand}
 use Rattle.layout.specs.declared.record.Operand.the-variants.{Unused as NoOperand, Direct, Indexed, Sampler as Sampled}
 use Rattle.layout.specs.declared.record.Token.{Token}
 use Rattle.listing.proofs.Bytes.{both}
-use Rattle.listing.specs.Line.{hasName, destinationHasNames, operandHasNames, samplerHasNames, isNameable}
+use Rattle.listing.specs.Line.{hasName, destinationHasNames, operandHasNames, isNameable}
 use Rattle.listing.specs.Writers.{operandRoom, Nameable}
 
 pub masked-kind : {d : Destination} {r : MaskedRegister} → d ≡ Masked r → destinationHasNames d ≡ true → r .kind ≤ 6
@@ -35,15 +35,14 @@ indexed-kinds {s = s} e h =
     let k = both (hasName (s .kind)) (hasName (s .«index_kind»)) (sym (ap operandHasNames e) ∙ h) in
     (leb-true (s .kind) 6 (k .0), leb-true (s .«index_kind») 6 (k .1))
 
-first-of : (a b c d e f : Bool) → (a && b && c && d && e && f) ≡ true → a ≡ true
-first-of true b c d e f h = refl
-first-of false b c d e f h = h
+first-right : (a b c d e f : Bool) → not (a || b || c || d || e || f) ≡ true → a ≡ false
+first-right true b c d e f h = absurd (false≢true h)
+first-right false b c d e f h = refl
 
 pub sampler-kind : {o : Operand} {s : Sampler} → o ≡ Sampled s → operandHasNames o ≡ true → s .kind ≤ 6
-unfolding samplerHasNames
 sampler-kind {s = s} e h =
-    let first = first-of (eqb (s .kind) 5) (leb (s .filter) 1) (leb (s .wrap) 1) (leb (s .dimension) 1) (leb (s .mipmap) 2) (eqb (s .special) 0) (sym (ap operandHasNames e) ∙ h) in
-    omega (arith, eqb-true (s .kind) 5 first)
+    let first = first-right (not (eqb (s .kind) 5)) (ltb 1 (s .filter)) (ltb 1 (s .wrap)) (ltb 1 (s .dimension)) (ltb 2 (s .mipmap)) (not (eqb (s .special) 0)) (sym (ap operandHasNames e) ∙ h) in
+    omega (arith, eqb-true (s .kind) 5 (not-false (eqb (s .kind) 5) first))
 
 -- ---- room
 

@@ -36,7 +36,7 @@ printed {text} {before} {after} {n = n} a h k =
     let l = le-ltb (length before) (length text) (omega (arith, m, inside, k)) in (
       record {
         answer = rw m (simp l);
-        numbers = simp l;
+        numbers = rw m (simp l);
         buffer = simp l (sym (take-append-drop n after) ∙ rw (a .text, a .rest, ← m));
       },
       omega (arith, m, a .room),

@@ -4,10 +4,10 @@ use Prim.Native.String.{String}
 use mathlib.Core.Bool.{cond}
 use mathlib.Core.List.{List, _++_}
 use lib.Dec.{eqb}
+use Rattle.bytecode.specs.declared.answers.Refusal.{Refusal}
 use Rattle.listing.specs.Text.{ascii}
 use Rattle.listing.specs.Decimal.{decimal}
 use Rattle.listing.specs.declared.first.Heading.{Heading}
-use Rattle.listing.specs.declared.first.Fault.{Fault}
 use Rattle.listing.specs.declared.first.FirstLine.{FirstLine}
 use Rattle.listing.specs.declared.first.FirstLine.the-variants.{Accepted, Refused, NoEdition, InputTooLong}
 
@@ -24,12 +24,19 @@ unfoldable pub headingLine : Heading → List ℕ
 headingLine h = numbered "agal " (h .edition) ++ ascii " " ++ stageName (h .stage) ++ numbered " " (h .tokens) ++ ascii "\n"
 
 -- "a refusal, as `refused 14 at 0 part 1`"
-unfoldable pub faultLine : Fault → List ℕ
-faultLine f = numbered "refused " (f .number) ++ numbered " at " (f .token) ++ numbered " part " (f .part) ++ ascii "\n"
+unfoldable pub refusalLine : Refusal → List ℕ
+refusalLine r = numbered "refused " (r .number) ++ numbered " at " (r .token) ++ numbered " part " (r .part) ++ ascii "\n"
 
 -- "or one line: `input too long` ..; `no edition` ..; else a refusal"
 abbrev pub firstLine : FirstLine → List ℕ
 firstLine (Accepted h) = headingLine h
-firstLine (Refused f) = faultLine f
+firstLine (Refused r) = refusalLine r
 firstLine NoEdition = ascii "no edition\n"
 firstLine InputTooLong = ascii "input too long\n"
+
+-- as many bytes as a first line of each kind has at most: a number of tokens has five digits, the token of a refusal twenty
+abbrev pub firstMost : FirstLine → ℕ
+firstMost (Accepted h) = 34
+firstMost (Refused r) = 49
+firstMost NoEdition = 34
+firstMost InputTooLong = 34

@@ -1,18 +1,19 @@
 -- Document 01: one listing line, and the refusals of line, 25 and then 23.
 use Prim.Native.Nat.{ℕ, _≤_}
-use mathlib.Core.Bool.{Bool, true, cond, _&&_}
+use mathlib.Core.Bool.{Bool, true, cond, _&&_, not}
 use mathlib.Core.List.{List, _++_}
 use mathlib.Core.Path.{_≡_}
-use lib.Dec.{leb, eqb}
+use lib.Dec.{leb}
 use lib.ListN.{length}
 use Rattle.listing.specs.Text.{ascii}
 use Rattle.listing.specs.Names.{opcodeName}
 use Rattle.listing.specs.Items.{indentation, destinationText, operandText}
 use Rattle.bytecode.specs.Encode.{isEncodable}
 use Rattle.bytecode.specs.Decode.{refusal}
+use Rattle.layout.specs.Samplers.{settingsWrong}
+use Rattle.bytecode.specs.Numbers.{foundNumbers}
 use Rattle.layout.specs.declared.record.Destination.{Destination}
 use Rattle.layout.specs.declared.record.Destination.the-variants.{Unused as NoDestination, Masked}
-use Rattle.layout.specs.declared.record.Sampler.{Sampler}
 use Rattle.layout.specs.declared.record.Operand.{Operand}
 use Rattle.layout.specs.declared.record.Operand.the-variants.{Unused as NoOperand, Direct, Indexed, Sampler as Sampled}
 use Rattle.layout.specs.declared.record.Token.{Token}
@@ -41,17 +42,12 @@ abbrev pub destinationHasNames : Destination → Bool
 destinationHasNames NoDestination = true
 destinationHasNames (Masked r) = hasName (r .kind)
 
--- 19, "its number aside": type not 5, filter, wrap or dimension above 1, mipmap above 2, special not 0
-unfoldable pub samplerHasNames : Sampler → Bool
-samplerHasNames s =
-    eqb (s .kind) 5 && leb (s .filter) 1 && leb (s .wrap) 1 && leb (s .dimension) 1 && leb (s .mipmap) 2 && eqb (s .special) 0
-
--- "a register type or an indexed source's index type above 6, or sampler settings that 19 refuses"
+-- "a register type or an indexed source's index type above 6, or sampler settings that 19 refuses (its number aside)"
 abbrev pub operandHasNames : Operand → Bool
 operandHasNames NoOperand = true
 operandHasNames (Direct s) = hasName (s .kind)
 operandHasNames (Indexed s) = hasName (s .kind) && hasName (s .«index_kind»)
-operandHasNames (Sampled s) = samplerHasNames s
+operandHasNames (Sampled s) = not (settingsWrong s)
 
 -- what 25 refuses: a record not encodable, "a stage above 1, a depth above 16", or one not nameable
 unfoldable pub isNameable : Token → ℕ → ℕ → Bool
@@ -73,9 +69,10 @@ lineAnswer t stage depth buffer =
 unfoldable pub afterLine : Token → ℕ → ℕ → List ℕ → List ℕ
 afterLine t stage depth buffer = cond (isNameable t stage depth) (afterPrint (lineOf t stage depth) buffer) buffer
 
--- the promise of line: its answer, the answer's numbers and the buffer afterwards; and 128 bytes are room enough for every line
+-- the promise of line: its answer, the answer's numbers by the rules above, the line's length where nothing is refused, and the buffer
+-- afterwards; and 128 bytes are room enough for every line
 pub record Lists (t : Token) (stage depth : ℕ) (before after : List ℕ) (r : Printed) : Type 0 where
   pub answer : r ≡ lineAnswer t stage depth before
-  pub numbers : printedNumbers r ≡ lineFault t stage depth before
+  pub numbers : printedNumbers r ≡ foundNumbers (lineFault t stage depth before) 0 (length (lineOf t stage depth))
   pub buffer : after ≡ afterLine t stage depth before
   pub short : isNameable t stage depth ≡ true → length (lineOf t stage depth) ≤ 128

@@ -6,14 +6,15 @@ use Prim.Native.Nat.{ℕ}
 use lib.Dec.{ltb}
 use lib.ListN.{length, drop}
 use Rattle.bytecode.specs.Decode.{refusal, noRefusal}
+use Rattle.bytecode.specs.Numbers.{Numbers, acceptedNumbers, refusalNumbers, foundNumbers}
 use Rattle.bytecode.specs.declared.answers.Refusal.{Refusal}
 use Rattle.listing.specs.declared.answers.Printed.{Printed}
 use Rattle.listing.specs.declared.answers.Printed.the-variants.{Length, Refused}
 
--- the paper's numbers of such an answer
-abbrev pub printedNumbers : Printed → Refusal
-printedNumbers (Length n) = noRefusal
-printedNumbers (Refused r) = r
+-- the paper's numbers of such an answer: it "answers the length"
+abbrev pub printedNumbers : Printed → Numbers
+printedNumbers (Length n) = acceptedNumbers 0 n
+printedNumbers (Refused r) = refusalNumbers r
 
 -- 23 where the lent buffer is shorter than the text
 unfoldable pub printFault : List ℕ → List ℕ → Refusal
@@ -27,8 +28,8 @@ printAnswer text buffer = cond (ltb (length buffer) (length text)) (Refused (ref
 unfoldable pub afterPrint : List ℕ → List ℕ → List ℕ
 afterPrint text buffer = cond (ltb (length buffer) (length text)) buffer (text ++ drop (length text) buffer)
 
--- the promise: the answer, its numbers and the buffer afterwards
+-- the promise: the answer, its numbers by the rule above, the text's length where nothing is refused, and the buffer afterwards
 pub record Prints (text before after : List ℕ) (r : Printed) : Type 0 where
   pub answer : r ≡ printAnswer text before
-  pub numbers : printedNumbers r ≡ printFault text before
+  pub numbers : printedNumbers r ≡ foundNumbers (printFault text before) 0 (length text)
   pub buffer : after ≡ afterPrint text before

@@ -1,6 +1,6 @@
 // Numbers in decimal, without leading zeros.
 ghost use mathlib.Core.Path.{_≡_};
-ghost use Prim.Native.Nat.{_+_, _≤_};
+ghost use Prim.Native.Nat.{_+_, _^_, _≤_, _<_};
 ghost use lib.ListN.{length};
 ghost use Rattle.listing.specs.Decimal.{decimal, signedDecimal, isNegative, magnitude as magnitudeOf};
 ghost use Rattle.listing.specs.Writers.{Appends};
@@ -16,6 +16,20 @@ pub(crate) fn put_decimal(out: &mut [u8], at: usize, n: u16) -> usize
     let c = text::put_when(out, b, 100 <= n, 48 + (n / 100 % 10) as u8);
     let d = text::put_when(out, c, 10 <= n, 48 + (n / 10 % 10) as u8);
     text::put_byte(out, d, 48 + (n % 10) as u8)
+}
+
+// Any number of at most `most` digits: those of its tenth, then the last one. Only a token's number in a refusal may be so large.
+pub(crate) fn put_long(out: &mut [u8], at: usize, n: usize, most: usize) -> usize
+    requires { ⌜ n < 10 ^ most ⌝ }
+    requires { ⌜ at + most ≤ length (now out) ⌝ }
+    requires { ⌜ 1 ≤ most ⌝ }
+    ensures { λ r. ⌜ Appends (decimal n) most at (now (out .entry)) (now (out .exit)) r ⌝ }
+{
+    if n < 10 {
+        return text::put_byte(out, at, 48 + n as u8);
+    }
+    let p = put_long(out, at, n / 10, most - 1);
+    text::put_byte(out, p, 48 + (n % 10) as u8)
 }
 
 pub(crate) fn put_signed(out: &mut [u8], at: usize, value: i8) -> usize

@@ -3,13 +3,14 @@ ghost use mathlib.Core.List.{_++_};
 ghost use Prim.Native.Nat.{_+_, _≤_};
 ghost use lib.ListN.{length};
 ghost use Rattle.listing.specs.Decimal.{decimal};
-ghost use Rattle.listing.specs.First.{headingLine, faultLine, firstLine};
+ghost use Rattle.listing.specs.First.{headingLine, refusalLine, firstLine, firstMost};
 ghost use Rattle.listing.specs.Printing.{Prints};
 ghost use Rattle.listing.specs.Writers.{Appends};
 use crate::answers::Printed;
 use crate::decimal;
 use crate::printing;
 use crate::text;
+use bytecode::answers::Refusal;
 
 // An accepted program.
 pub struct Heading {
@@ -18,40 +19,33 @@ pub struct Heading {
     pub tokens: u16,
 }
 
-// A refusal of one of as many tokens as 16 bits can number.
-pub struct Fault {
-    pub number: u8,
-    pub token: u16,
-    pub part: u8,
-}
-
 pub enum FirstLine {
     Accepted(Heading),
-    Refused(Fault),
+    Refused(Refusal),
     NoEdition,
     InputTooLong,
 }
 
 pub fn first_line(first: FirstLine, out: &mut [u8]) -> Printed
-    ensures { λ r. ⌜ Prints (firstLine first) (now (out .entry)) (now (out .exit)) r × (length (firstLine first) ≤ 34) ⌝ }
+    ensures { λ r. ⌜ Prints (firstLine first) (now (out .entry)) (now (out .exit)) r × (length (firstLine first) ≤ firstMost first) ⌝ }
 {
     // No first line is longer.
-    if 34 <= out.len() {
+    if 49 <= out.len() {
         return Printed::Length(put_first_line(out, first));
     }
     // Its length is known once it is written, so where the buffer may be too short it is written here first.
-    let mut whole = [0u8; 34];
+    let mut whole = [0u8; 49];
     let n = put_first_line(&mut whole, first);
     printing::print(&whole[..n], out)
 }
 
 fn put_first_line(out: &mut [u8], first: FirstLine) -> usize
-    requires { ⌜ 34 ≤ length (now out) ⌝ }
-    ensures { λ r. ⌜ Appends (firstLine first) 34 0 (now (out .entry)) (now (out .exit)) r ⌝ }
+    requires { ⌜ 49 ≤ length (now out) ⌝ }
+    ensures { λ r. ⌜ Appends (firstLine first) (firstMost first) 0 (now (out .entry)) (now (out .exit)) r ⌝ }
 {
     match first {
         FirstLine::Accepted(heading) => put_heading(out, heading),
-        FirstLine::Refused(fault) => put_fault(out, fault),
+        FirstLine::Refused(r) => put_refusal(out, r),
         FirstLine::NoEdition => text::put_bytes(out, 0, b"no edition\n"),
         FirstLine::InputTooLong => text::put_bytes(out, 0, b"input too long\n"),
     }
@@ -70,14 +64,16 @@ fn put_heading(out: &mut [u8], heading: Heading) -> usize
 }
 
 // `refused 14 at 0 part 1`
-fn put_fault(out: &mut [u8], fault: Fault) -> usize
-    requires { ⌜ 34 ≤ length (now out) ⌝ }
-    ensures { λ r. ⌜ Appends (faultLine fault) 34 0 (now (out .entry)) (now (out .exit)) r ⌝ }
+fn put_refusal(out: &mut [u8], r: Refusal) -> usize
+    requires { ⌜ 49 ≤ length (now out) ⌝ }
+    ensures { λ p. ⌜ Appends (refusalLine r) 49 0 (now (out .entry)) (now (out .exit)) p ⌝ }
 {
-    let p1 = put_numbered(out, 0, b"refused ", fault.number as u16);
-    let p2 = put_numbered(out, p1, b" at ", fault.token);
-    let p3 = put_numbered(out, p2, b" part ", fault.part as u16);
-    text::put_byte(out, p3, b'\n')
+    let p1 = put_numbered(out, 0, b"refused ", r.number as u16);
+    let p2 = text::put_bytes(out, p1, b" at ");
+    // No usize has more than 20 digits.
+    let p3 = decimal::put_long(out, p2, r.token, 20);
+    let p4 = put_numbered(out, p3, b" part ", r.part as u16);
+    text::put_byte(out, p4, b'\n')
 }
 
 // A word and a number after it.

@@ -17,7 +17,7 @@ pub fn line(token: Token, stage: u8, depth: u8, out: &mut [u8]) -> Printed
     ensures { λ r. ⌜ Lists token stage depth (now (out .entry)) (now (out .exit)) r ⌝ }
 {
     if !nameable::nameable(token, stage, depth) {
-        return Printed::Refused(printing::refused(25));
+        return Printed::Refused(bytecode::refusal(25, 0, 0));
     }
     // No line is longer.
     if 128 <= out.len() {

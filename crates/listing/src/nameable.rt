@@ -1,9 +1,8 @@
 // Which records have a line.
 ghost use mathlib.Core.Path.{_≡_};
-ghost use Rattle.listing.specs.Line.{isNameable, destinationHasNames, samplerHasNames, operandHasNames};
+ghost use Rattle.listing.specs.Line.{isNameable, destinationHasNames, operandHasNames};
 use layout::record::Destination;
 use layout::record::Operand;
-use layout::record::Sampler;
 use layout::record::Token;
 
 pub(crate) fn nameable(token: Token, stage: u8, depth: u8) -> bool
@@ -37,18 +36,6 @@ fn operand_has_names(operand: Operand) -> bool
         Operand::Unused => true,
         Operand::Direct(source) => source.kind <= 6,
         Operand::Indexed(source) => (source.kind <= 6) & (source.index_kind <= 6),
-        Operand::Sampler(sampler) => sampler_has_names(sampler),
+        Operand::Sampler(sampler) => !layout::settings_wrong(sampler),
     }
-}
-
-// The settings that the format has, whatever the sampler's number.
-fn sampler_has_names(s: Sampler) -> bool
-    ensures { λ r. ⌜ r ≡ samplerHasNames s ⌝ }
-{
-    (s.kind == 5)
-        & (s.filter <= 1)
-        & (s.wrap <= 1)
-        & (s.dimension <= 1)
-        & (s.mipmap <= 2)
-        & (s.special == 0)
 }

@@ -6,7 +6,8 @@ use mathlib.Core.Path.{_≡_, _∙_, sym, ap}
 use native.Mathlib.Omega.{arith}
 use denote.Ref.{RefT, now}
 use Rattle.layout.specs.declared.record.Token.{Token}
-use Rattle.faults.specs.Order.{recordOf, tokenAt}
+use Rattle.bytecode.specs.Fields.{recordOf}
+use Rattle.layout.specs.Programs.{tokenAt}
 use Rattle.verifier.specs.Verdict.{program, verdict}
 use Rattle.verifier.specs.declared.answers.Checked.the-variants.{Accepted as IsAccepted}
 use Rattle.verifier.proofs.AcceptedTokens.{accepted-decodes}

@@ -9,7 +9,8 @@ use lib.Dec.{ltb, eqb}
 use lib.ListN.{length}
 use borrow.Author.Tests.{le-ltb, lt-ltb, ltb-true, ltb-false}
 use Rattle.bytecode.specs.Fields.{fieldsOf}
-use Rattle.bytecode.specs.Decode.{refusal, noRefusal, decodedNumbers, unusedPart, undefinedPart, tokenFault, decodeFault, decodeOf}
+use Rattle.bytecode.specs.Decode.{refusal, noRefusal, unusedPart, undefinedPart, tokenFault, decodeFault, decodeOf}
+use Rattle.bytecode.specs.Numbers.{acceptedNumbers, refusalNumbers, foundNumbers, decodedNumbers}
 use Rattle.layout.specs.Opcodes.{shapeOf}
 use Rattle.layout.specs.declared.opcodes.Shape.{Shape}
 use Rattle.layout.specs.declared.fields.Fields.{Fields}
@@ -17,9 +18,9 @@ use Rattle.layout.specs.declared.record.Token.{Token}
 use Rattle.bytecode.specs.declared.answers.Refusal.{Refusal}
 use Rattle.bytecode.specs.declared.answers.Decoded.{Decoded}
 use Rattle.bytecode.specs.declared.answers.Decoded.the-variants.{Token as Accepted, Refused}
-use Rattle.faults.specs.Order.{tokenAt}
+use Rattle.layout.specs.Programs.{tokenAt, tokenStart, noTokenLeft}
 use Rattle.reader.specs.declared.answers.Opening.the-variants.{Ready, Refused as NotOpened}
-use Rattle.reader.specs.Reading.{openingFault, openingNumbers, openingOf, tokenStart, noTokenLeft, tokenBytes, standsAt, faultAt, readOf, readFault, placeFrom, placeAfter, ReadsAt, Steps}
+use Rattle.reader.specs.Reading.{openingFault, openingNumbers, openingOf, tokenBytes, standsAt, faultAt, readOf, readFault, placeFrom, placeAfter, ReadsAt, Steps}
 
 module _ (s : List ℕ) where
   pub too-short : length s < 7 → NotOpened (refusal 2 0 0) ≡ openingOf s
@@ -30,22 +31,22 @@ module _ (s : List ℕ) where
   unfolding openingOf openingFault
   long-enough h = simp (le-ltb (length s) 7 h)
 
-  -- the numbers of what opening answers are its fault
-  pub opening-numbers : openingNumbers (openingOf s) ≡ openingFault s
+  -- the numbers of what opening answers are its fault's
+  pub opening-numbers : openingNumbers (openingOf s) ≡ foundNumbers (openingFault s) 0 0
   unfolding openingOf openingFault
   opening-numbers = go (ltb (length s) 7)
     where
-      go : (short : Bool) → openingNumbers (cond (eqb (cond short (refusal 2 0 0) noRefusal .number) 0) Ready (NotOpened (cond short (refusal 2 0 0) noRefusal))) ≡ cond short (refusal 2 0 0) noRefusal
+      go : (short : Bool) → openingNumbers (cond (eqb (cond short (refusal 2 0 0) noRefusal .number) 0) Ready (NotOpened (cond short (refusal 2 0 0) noRefusal))) ≡ foundNumbers (cond short (refusal 2 0 0) noRefusal) 0 0
       go true = refl
       go false = refl
 
 -- the numbers of an answer that names the reader's token
-stands-numbers : (n : ℕ) (s : List ℕ) → decodedNumbers (standsAt n (decodeOf s)) ≡ faultAt n (decodeFault s)
-unfolding decodeOf faultAt
+stands-numbers : (n : ℕ) (s : List ℕ) → decodedNumbers (standsAt n (decodeOf s)) ≡ foundNumbers (faultAt n (decodeFault s)) 0 0
+unfolding decodeOf
 stands-numbers n s = go (eqb (decodeFault s .number) 0) _
   where
     go : (fine : Bool) (t : Token)
-        → decodedNumbers (standsAt n (cond fine (Accepted t) (Refused (decodeFault s)))) ≡ cond fine noRefusal (refusal (decodeFault s .number) n (decodeFault s .part))
+        → decodedNumbers (standsAt n (cond fine (Accepted t) (Refused (decodeFault s)))) ≡ cond fine (acceptedNumbers 0 0) (refusalNumbers (faultAt n (decodeFault s)))
     go true t = refl
     go false t = refl
 

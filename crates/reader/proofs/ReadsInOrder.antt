@@ -1,24 +1,21 @@
 -- Reading from the opening gives the program's tokens in order, and then 24 for ever; a refused token is refused for ever.
 -- Assumes nothing.
 use Prim.Native.Nat.{ℕ, zero, suc, _+_, _<_, _≤_}
-use mathlib.Core.Bool.{Bool, true, false, cond}
 use mathlib.Core.List.{List}
 use mathlib.Core.Path.{_≡_, refl, _∙_, sym, ap}
 use native.Mathlib.Nat.{add-zero, add-suc}
 use native.Mathlib.Numerals.{add-one}
 use native.Mathlib.Omega.{arith}
-use lib.Dec.{ltb}
 use lib.ListN.{length, length-take, length-drop}
-use borrow.Author.Tests.{ltb-true}
-use Rattle.bytecode.specs.Decode.{refusal, noRefusal, decodeOf}
+use Rattle.bytecode.specs.Decode.{refusal, decodeOf}
 use Rattle.layout.specs.declared.record.Token.{Token}
 use Rattle.bytecode.specs.declared.answers.Refusal.{Refusal}
 use Rattle.bytecode.specs.declared.answers.Decoded.the-variants.{Token as Accepted, Refused}
 use Rattle.bytecode.proofs.DecodeLaws.{accepted}
-use Rattle.faults.specs.Order.{tokenAt}
-use Rattle.reader.specs.Reading.{openingFault, tokenStart, standsAt, readOf, placeAfter}
+use Rattle.layout.specs.Programs.{tokenAt, tokenStart}
+use Rattle.reader.specs.Reading.{standsAt, readOf, placeAfter}
 use Rattle.reader.specs.Sequence.{placeAfterReads, placeOpened, HoldsTokens, ReadsInOrder, StaysRefused, RefusedOpening}
-use Rattle.reader.proofs.ReadingLaws.{none-left, one-left, moves-on, stays}
+use Rattle.reader.proofs.ReadingLaws.{too-short, none-left, one-left, moves-on, stays}
 
 -- a list of which 24 elements can be taken from a place has them all
 whole : (s : List ℕ) (n : ℕ) → length (tokenAt s n) ≡ 24 → tokenStart n + 24 ≤ length s
@@ -37,12 +34,10 @@ module _ (s : List ℕ) where
       place (suc reads) = rw (place reads) (stays s n r e)
 
   pub refused-opening : RefusedOpening s
-  unfolding openingFault
-  refused-opening e = go (ltb (length s) 7) refl e
-    where
-      go : (short : Bool) → ltb (length s) 7 ≡ short → cond short (refusal 2 0 0) noRefusal .number ≡ 2 → StaysRefused s 0 (refusal 24 0 0)
-      go true l h = let b : length s < 7 = ltb-true _ _ l in stays-refused 0 (refusal 24 0 0) (sym (none-left s 0 (omega arith) .answer))
-      go false l h = absurd (omega (arith, h))
+  refused-opening short = (
+    sym (too-short s short),
+    stays-refused 0 (refusal 24 0 0) (sym (none-left s 0 (omega (arith, short)) .answer)),
+  )
 
   module _ (k : ℕ) (token : ℕ → Token) (holds : HoldsTokens s k token) where
     place : (i : ℕ) → i ≤ k → placeOpened s i ≡ i

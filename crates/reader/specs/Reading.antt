@@ -1,16 +1,17 @@
 -- Document 01, "Token reader": what opening and each read answer, and where they leave the reader.
-use Prim.Native.Nat.{ℕ, _+_, _*_}
-use mathlib.Core.Bool.{Bool, cond}
+use Prim.Native.Nat.{ℕ, _+_}
+use mathlib.Core.Bool.{cond}
 use mathlib.Core.List.{List, []}
 use mathlib.Core.Path.{_≡_}
 use lib.Dec.{ltb, eqb}
 use lib.ListN.{length}
 use denote.Ref.{RefT, now}
-use Rattle.bytecode.specs.Decode.{refusal, noRefusal, decodedNumbers, decodeFault, decodeOf}
+use Rattle.bytecode.specs.Decode.{refusal, noRefusal, decodeFault, decodeOf}
+use Rattle.bytecode.specs.Numbers.{Numbers, acceptedNumbers, refusalNumbers, foundNumbers, decodedNumbers}
 use Rattle.bytecode.specs.declared.answers.Refusal.{Refusal}
 use Rattle.bytecode.specs.declared.answers.Decoded.{Decoded}
 use Rattle.bytecode.specs.declared.answers.Decoded.the-variants.{Token as Accepted, Refused}
-use Rattle.faults.specs.Order.{tokenAt}
+use Rattle.layout.specs.Programs.{tokenAt, noTokenLeft}
 use Rattle.reader.specs.declared.answers.TokenReader.{TokenReader}
 use Rattle.reader.specs.declared.answers.Opening.{Opening}
 use Rattle.reader.specs.declared.answers.Opening.the-variants.{Ready, Refused as NotOpened}
@@ -23,40 +24,32 @@ unfoldable pub openingFault : List ℕ → Refusal
 openingFault s = cond (ltb (length s) 7) (refusal 2 0 0) noRefusal
 
 -- the paper's numbers of what opening answers
-abbrev pub openingNumbers : Opening → Refusal
-openingNumbers Ready = noRefusal
-openingNumbers (NotOpened r) = r
+abbrev pub openingNumbers : Opening → Numbers
+openingNumbers Ready = acceptedNumbers 0 0
+openingNumbers (NotOpened r) = refusalNumbers r
 
 -- what opening answers
 unfoldable pub openingOf : List ℕ → Opening
 openingOf s = cond (eqb (openingFault s .number) 0) Ready (NotOpened (openingFault s))
-
--- "Then tokens of 24 bytes", after a header of 7: where a token begins
-abbrev pub tokenStart : ℕ → ℕ
-tokenStart n = 7 + n * 24
-
--- "Fewer than 24 left"
-abbrev pub noTokenLeft : List ℕ → ℕ → Bool
-noTokenLeft s n = ltb (length s) (tokenStart n + 24)
 
 -- the bytes of token n, or none where fewer than 24 are left
 unfoldable pub tokenBytes : List ℕ → ℕ → List ℕ
 tokenBytes s n = cond (noTokenLeft s n) [] (tokenAt s n)
 
 -- "Outside the check a refusal's token is 0, for the reader the token it stands at"
+abbrev pub faultAt : ℕ → Refusal → Refusal
+faultAt n r = refusal (r .number) n (r .part)
+
 abbrev pub standsAt : ℕ → Decoded → Decoded
 standsAt n (Accepted t) = Accepted t
-standsAt n (Refused r) = Refused (refusal (r .number) n (r .part))
+standsAt n (Refused r) = Refused (faultAt n r)
 
 -- "Each read decodes the next 24 bytes", "Fewer than 24 left answers 24": what a read answers after n tokens read; tokenAt has the bytes of
 -- token n
 unfoldable pub readOf : List ℕ → ℕ → Decoded
 readOf s n = cond (noTokenLeft s n) (Refused (refusal 24 n 0)) (standsAt n (decodeOf (tokenAt s n)))
 
--- the numbers of that answer; all are 0 where nothing is refused
-unfoldable pub faultAt : ℕ → Refusal → Refusal
-faultAt n r = cond (eqb (r .number) 0) noRefusal (refusal (r .number) n (r .part))
-
+-- the fault that it names; its number is 0 where nothing is refused
 unfoldable pub readFault : List ℕ → ℕ → Refusal
 readFault s n = cond (noTokenLeft s n) (refusal 24 n 0) (faultAt n (decodeFault (tokenAt s n)))
 
@@ -72,7 +65,7 @@ placeAfter s n = placeFrom n (readOf s n)
 -- the promise of read_at: the answer after n tokens read, and its numbers
 pub record ReadsAt (s : List ℕ) (n : ℕ) (r : Decoded) : Type 0 where
   pub answer : r ≡ readOf s n
-  pub numbers : decodedNumbers r ≡ readFault s n
+  pub numbers : decodedNumbers r ≡ foundNumbers (readFault s n) 0 0
 
 -- the answer, and the place after it
 pub record Steps (s : List ℕ) (n : ℕ) (r : Step) : Type 0 where
@@ -82,7 +75,7 @@ pub record Steps (s : List ℕ) (n : ℕ) (r : Step) : Type 0 where
 -- the promise of open: its answer and the answer's numbers; the reader holds the very slice lent and stands at token 0, on a refusal too
 pub record Opens (lent : RefT (List ℕ)) (r : Opened) : Type 0 where
   pub answer : r .answer ≡ openingOf (now lent)
-  pub numbers : openingNumbers (r .answer) ≡ openingFault (now lent)
+  pub numbers : openingNumbers (r .answer) ≡ foundNumbers (openingFault (now lent)) 0 0
   pub program : r .reader .program ≡ lent
   pub place : r .reader .place ≡ 0
 

@@ -8,11 +8,12 @@ use Rattle.bytecode.specs.Decode.{refusal, decodeOf}
 use Rattle.layout.specs.declared.record.Token.{Token}
 use Rattle.bytecode.specs.declared.answers.Refusal.{Refusal}
 use Rattle.bytecode.specs.declared.answers.Decoded.the-variants.{Token as Accepted, Refused}
-use Rattle.faults.specs.Order.{recordOf, tokenAt}
+use Rattle.bytecode.specs.Fields.{recordOf}
+use Rattle.layout.specs.Programs.{tokenAt, tokenStart}
 use Rattle.verifier.specs.Verdict.{program, verdict}
 use Rattle.verifier.specs.declared.answers.Checked.the-variants.{Accepted as IsAccepted}
-use Rattle.reader.specs.Reading.{openingFault, tokenStart, readOf, placeAfter, Opens, Reads}
-use Rattle.reader.specs.declared.answers.Opening.the-variants.{Ready}
+use Rattle.reader.specs.Reading.{openingOf, readOf, placeAfter, Opens, Reads}
+use Rattle.reader.specs.declared.answers.Opening.the-variants.{Ready, Refused as NotOpened}
 use Rattle.reader.specs.declared.answers.Opened.{Opened}
 use Rattle.reader.specs.declared.answers.Read.{Read}
 
@@ -44,9 +45,9 @@ pub record StaysRefused (s : List ℕ) (n : ℕ) (r : Refusal) : Type 0 where
   pub place : (reads : ℕ) → placeAfterReads s n reads ≡ n
   pub answer : (reads : ℕ) → readOf s (placeAfterReads s n reads) ≡ Refused r
 
--- "(else 2, and its reads answer 24)": every read after a refused opening answers 24 at token 0
+-- "Opening needs 7 bytes (else 2, and its reads answer 24)": with fewer, opening answers 2, and every read 24 at token 0
 abbrev pub RefusedOpening : List ℕ → Type 0
-RefusedOpening s = openingFault s .number ≡ 2 → StaysRefused s 0 (refusal 24 0 0)
+RefusedOpening s = length s < 7 → (openingOf s ≡ NotOpened (refusal 2 0 0)) × StaysRefused s 0 (refusal 24 0 0)
 
 -- ---- an accepted program
 

@@ -1,10 +1,8 @@
 // What the reader answers, on a plain slice and a number of tokens read.
 ghost use mathlib.Core.Path.{_≡_};
-ghost use Rattle.bytecode.specs.Decode.{refusal};
 ghost use Rattle.reader.specs.Reading.{openingOf, tokenBytes, standsAt, ReadsAt, Steps};
 use crate::answers::Opening;
 use bytecode::answers::Decoded;
-use bytecode::answers::Refusal;
 
 // An answer, and the place that the reader has after it.
 pub(crate) struct Step {
@@ -16,7 +14,7 @@ pub(crate) fn opening(program: &[u8]) -> Opening
     ensures { λ r. ⌜ r ≡ openingOf (now (program .entry)) ⌝ }
 {
     if program.len() < 7 {
-        return Opening::Refused(refused(2, 0, 0));
+        return Opening::Refused(bytecode::refusal(2, 0, 0));
     }
     Opening::Ready
 }
@@ -67,16 +65,6 @@ fn stands_at(token: usize, answer: Decoded) -> Decoded
 {
     match answer {
         Decoded::Token(t) => Decoded::Token(t),
-        Decoded::Refused(r) => Decoded::Refused(refused(r.number, token, r.part)),
-    }
-}
-
-fn refused(number: u8, token: usize, part: u8) -> Refusal
-    ensures { λ r. ⌜ r ≡ refusal number token part ⌝ }
-{
-    Refusal {
-        number,
-        token,
-        part,
+        Decoded::Refused(r) => Decoded::Refused(bytecode::refusal(r.number, token, r.part)),
     }
 }

@@ -3,16 +3,17 @@
 use Prim.Native.Nat.{ℕ, zero, suc, _+_, _≤_, _<_}
 use mathlib.Core.Bool.{Bool, true, false, not, _&&_, _||_, true≢false}
 use mathlib.Core.List.{List, [], _∷_, _++_}
-use mathlib.Core.Path.{_≡_, refl, _∙_, sym, subst}
+use mathlib.Core.Path.{_≡_, refl, _∙_, sym, ap, subst}
 use native.Mathlib.Decide.{decLt}
 use native.Mathlib.Omega.{arith}
 use lib.Dec.{eqb, ltb, leb}
 use lib.ListN.{length}
 use borrow.Author.Tests.{ne-eqb, le-leb, ltb-false, leb-false, eqb-true, not-false}
 use Rattle.layout.specs.Opcodes.{shapeOf, rowCount2}
-use Rattle.bytecode.specs.Fields.{fieldsOf}
+use Rattle.bytecode.specs.Fields.{fieldsOf, recordOf}
 use Rattle.layout.specs.Records.{destinationOf, operandOf, tokenOf}
 use Rattle.bytecode.specs.Encode.{destinationFits, operandFits, isEncodable}
+use Rattle.layout.specs.Samplers.{settingsWrong}
 use Rattle.layout.specs.declared.opcodes.Flow.{Flow}
 use Rattle.layout.specs.declared.opcodes.Flow.the-variants.{Plain, Opener, Els, Eif}
 use Rattle.layout.specs.declared.opcodes.OperandShape.{OperandShape}
@@ -29,9 +30,10 @@ use Rattle.registers.specs.Counts.{countOf}
 use Rattle.registers.specs.Uses.{isReadable, isWritable}
 use Rattle.components.specs.Tokens.{pathFlow}
 use Rattle.paths.specs.Nesting.{Branch, branchesAfter, misplaced, misplacedFrom}
-use Rattle.listing.specs.Line.{samplerHasNames, destinationHasNames, operandHasNames, isNameable}
-use Rattle.faults.specs.Rules.{destinationWrong, samplerWrong, selectorsDiffer, matrixSwizzled, stageOf, tokenCount}
-use Rattle.faults.specs.Order.{Rule, sourceRules, tokenRules, recordOf, tokenAt, tokensFrom}
+use Rattle.listing.specs.Line.{destinationHasNames, operandHasNames, isNameable}
+use Rattle.layout.specs.Programs.{stageOf, tokenCount, tokenAt}
+use Rattle.faults.specs.Rules.{destinationWrong, samplerWrong, selectorsDiffer, matrixSwizzled}
+use Rattle.faults.specs.Order.{Rule, sourceRules, tokenRules, tokensFrom}
 use Rattle.verifier.specs.Verdict.{program, verdict}
 use Rattle.verifier.specs.declared.answers.Program.{Program}
 use Rattle.verifier.specs.declared.answers.Checked.the-variants.{Accepted}
@@ -61,22 +63,6 @@ of-five : (a b c d e : Bool) → (a || b || c || d || e) ≡ false → (b ≡ fa
 of-five a b c d e k =
     let k3 = or-left (a || b || c) d (or-left (a || b || c || d) e k) in
     (or-right a b (or-left (a || b) c k3), or-right (a || b) c k3)
-
--- all but the second
-of-seven : (a b c d e f g : Bool) → (a || b || c || d || e || f || g) ≡ false
-    → (a ≡ false) × (c ≡ false) × (d ≡ false) × (e ≡ false) × (f ≡ false) × (g ≡ false)
-of-seven a b c d e f g k =
-    let k6 = or-left (a || b || c || d || e || f) g k in
-    let k5 = or-left (a || b || c || d || e) f k6 in
-    let k4 = or-left (a || b || c || d) e k5 in
-    let k3 = or-left (a || b || c) d k4 in (
-      or-left a b (or-left (a || b) c k3),
-      or-right (a || b) c k3,
-      or-right (a || b || c) d k4,
-      or-right (a || b || c || d) e k5,
-      or-right (a || b || c || d || e) f k6,
-      or-right (a || b || c || d || e || f) g k,
-    )
 
 -- ---- every register has a name
 
@@ -115,18 +101,8 @@ module _ (count : ℕ → ℕ) (stage : ℕ) where
   destination-named NoDestination e = refl
   destination-named (Masked r) e = writable-named (r .kind) stage (not-false _ (or-left _ _ e))
 
-  sampler-named : (s : Sampler) → samplerWrong count s ≡ false → samplerHasNames s ≡ true
-  unfolding samplerHasNames
-  sampler-named s e =
-      let (kind, filter, wrap, dimension, mipmap, special) = of-seven (not (eqb (s .kind) 5)) (leb (count 5) (s .number)) (ltb 1 (s .filter)) (ltb 1 (s .wrap)) (ltb 1 (s .dimension)) (ltb 2 (s .mipmap)) (not (eqb (s .special) 0)) e in
-      rw (
-        not-false (eqb (s .kind) 5) kind,
-        le-leb (s .filter) 1 (ltb-false 1 (s .filter) filter),
-        le-leb (s .wrap) 1 (ltb-false 1 (s .wrap) wrap),
-        le-leb (s .dimension) 1 (ltb-false 1 (s .dimension) dimension),
-        le-leb (s .mipmap) 2 (ltb-false 2 (s .mipmap) mipmap),
-        not-false (eqb (s .special) 0) special,
-      )
+  sampler-named : (s : Sampler) → samplerWrong count s ≡ false → not (settingsWrong s) ≡ true
+  sampler-named s e = ap not (or-right (leb (count 5) (s .number)) (settingsWrong s) e)
 
   source-named : (rows : ℕ) (swizzled : ℕ → Bool) (part : ℕ) (o : Operand) → AllKept (sourceRules count stage rows swizzled part o) → operandHasNames o ≡ true
   source-named rows swizzled part NoOperand k = refl

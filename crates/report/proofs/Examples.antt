@@ -15,7 +15,7 @@ use Rattle.listing.specs.Text.{ascii}
 use Rattle.listing.specs.Decimal.{decimal}
 use Rattle.listing.specs.Names.{opcodeName, registerName}
 use Rattle.listing.specs.Items.{registerText, maskText, swizzleText, maskedText, directText}
-use Rattle.listing.specs.First.{headingLine, faultLine}
+use Rattle.listing.specs.First.{headingLine, refusalLine}
 use Rattle.listing.specs.Line.{lineOf}
 use Rattle.verifier.specs.Verdict.{verdict}
 use Rattle.report.specs.Text.{textOf}
@@ -33,20 +33,20 @@ abbrev printed : List ℕ
 printed = ascii "agal 1 vertex 2\nm44 op0.xyzw va0.xyzw vc0.xyzw\nmov v0.xyzw va1.xyzw\n"
 
 pub as-printed : textOf example ≡ printed
-unfolding textOf verdict faultLine headingLine lineOf opcodeName registerName decimal registerText maskText swizzleText maskedText directText checkFrom flowOf tokenOf signed rowOf shapeOfRow unusedPart undefinedPart countOf limitOf selectors1 selectors2 components2 rowCount2
+unfolding textOf verdict refusalLine headingLine lineOf opcodeName registerName decimal registerText maskText swizzleText maskedText directText checkFrom flowOf tokenOf signed rowOf shapeOfRow unusedPart undefinedPart countOf limitOf selectors1 selectors2 components2 rowCount2
 as-printed = refl
 
 pub as-long : length printed ≡ 68
 as-long = refl
 
 -- a refusal
-pub refused-line : faultLine (record { number = 14; token = 0; part = 1 }) ≡ ascii "refused 14 at 0 part 1\n"
-unfolding faultLine decimal
+pub refused-line : refusalLine (record { number = 14; token = 0; part = 1 }) ≡ ascii "refused 14 at 0 part 1\n"
+unfolding refusalLine decimal
 refused-line = refl
 
 -- no program after the digit, no input, and a byte of 1 for the digit 1
 pub digit-alone : textOf (ascii "1") ≡ ascii "refused 2 at 0 part 0\n"
-unfolding textOf verdict faultLine decimal checkFrom
+unfolding textOf verdict refusalLine decimal checkFrom
 digit-alone = refl
 
 pub empty : textOf [] ≡ ascii "no edition\n"
@@ -54,7 +54,7 @@ unfolding textOf
 empty = refl
 
 pub no-digit : textOf (1 ∷ []) ≡ ascii "refused 1 at 0 part 0\n"
-unfolding textOf faultLine decimal
+unfolding textOf refusalLine decimal
 no-digit = refl
 
 -- mov vt0.xyzw va0.xyzw
@@ -73,5 +73,5 @@ branch =
     ++ (0x21 ∷ replicate 23 0)
 
 pub branched : textOf branch ≡ ascii "agal 2 vertex 5\nife vc0.xyzw vc0.xyzw\n  mov vt0.xyzw va0.xyzw\nels\n  mov vt0.xyzw va0.xyzw\neif\n"
-unfolding textOf verdict faultLine headingLine lineOf opcodeName registerName decimal registerText maskText swizzleText maskedText directText checkFrom flowOf tokenOf signed rowOf shapeOfRow unusedPart undefinedPart countOf limitOf selectors1 selectors2 components2 rowCount2
+unfolding textOf verdict refusalLine headingLine lineOf opcodeName registerName decimal registerText maskText swizzleText maskedText directText checkFrom flowOf tokenOf signed rowOf shapeOfRow unusedPart undefinedPart countOf limitOf selectors1 selectors2 components2 rowCount2
 branched = refl

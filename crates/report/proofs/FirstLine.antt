@@ -6,15 +6,15 @@ use mathlib.Core.Path.{_≡_, refl, _∙_, sym, ap, subst}
 use native.Mathlib.Omega.{arith}
 use types.Run.{OneOf, miss}
 use denote.Enum.Declared.{tagOf}
-use lib.Dec.{lit≤}
 use lib.ListN.{length, take, drop, length-drop}
 use lib.Seq.{take-length}
-use Rattle.listing.specs.First.{firstLine}
+use Rattle.listing.specs.First.{firstLine, firstMost}
 use Rattle.listing.specs.declared.first.FirstLine.{FirstLine}
 use Rattle.listing.specs.declared.first.FirstLine.the-variants.{Accepted, Refused, NoEdition, InputTooLong}
 use Rattle.listing.specs.declared.first.Heading.{Heading}
+use Rattle.listing.proofs.FirstMost.{first-most}
 use Rattle.listing.proofs.first.FirstLine.{the-type}
-use Rattle.faults.specs.Rules.{tokenCount}
+use Rattle.layout.specs.Programs.{tokenCount}
 use Rattle.report.specs.Writers.{allLines, Listed, linesAfter, HasLines, Opens, HasRoom, Puts, Measured}
 use Rattle.report.proofs.Room.{front, behind, in-turn, add-lengths}
 
@@ -38,9 +38,13 @@ none-after NoEdition bytes k = refl
 none-after InputTooLong bytes k = refl
 
 module _ {text bytes : List ℕ} {first : FirstLine} (o : Opens text bytes first) where
+  -- it is no longer than the text may be
+  pub first-short : firstMost first ≤ 262178
+  first-short = omega (arith, first-most first)
+
   -- where there is room for the text, there is room for its first line
-  pub first-room : {size : ℕ} → HasRoom text 262178 0 size → HasRoom (firstLine first) 34 0 size
-  first-room {size} r = front (firstLine first) (linesAfter first bytes) 34 (lit≤ tt) (subst (λ t. HasRoom t 262178 0 size) (o .whole) r)
+  pub first-room : {size : ℕ} → HasRoom text 262178 0 size → HasRoom (firstLine first) (firstMost first) 0 size
+  first-room {size} r = front (firstLine first) (linesAfter first bytes) (firstMost first) first-short (subst (λ t. HasRoom t 262178 0 size) (o .whole) r)
 
   -- a first line alone is the text
   pub only : IsAlone first → text ≡ firstLine first
@@ -54,18 +58,18 @@ module _ {text bytes : List ℕ} {first : FirstLine} (o : Opens text bytes first
     two-parts : text ≡ firstLine first ++ allLines (h .stage) bytes
     two-parts = o .whole ∙ ap (λ f. firstLine first ++ linesAfter f bytes) e
 
-    most : 34 + 128 * tokenCount bytes ≤ 262178
-    most = omega (arith, listed .few)
+    most : firstMost first + 128 * tokenCount bytes ≤ 262178
+    most = omega (arith, listed .few, ap firstMost e)
 
-    pub lines-room : {p size : ℕ} {l m : List ℕ} → HasRoom text 262178 0 size → Puts (firstLine first) 34 0 l m p
+    pub lines-room : {p size : ℕ} {l m : List ℕ} → HasRoom text 262178 0 size → Puts (firstLine first) (firstMost first) 0 l m p
         → HasRoom (allLines (h .stage) bytes) (128 * tokenCount bytes) p size
     lines-room {size = size} r a = behind (firstLine first) _ most a (subst (λ t. HasRoom t 262178 0 size) two-parts r)
 
-    pub both-put : {p r : ℕ} {l m n : List ℕ} → Puts (firstLine first) 34 0 l m p → Puts (allLines (h .stage) bytes) (128 * tokenCount bytes) p m n r
+    pub both-put : {p r : ℕ} {l m n : List ℕ} → Puts (firstLine first) (firstMost first) 0 l m p → Puts (allLines (h .stage) bytes) (128 * tokenCount bytes) p m n r
         → Puts text 262178 0 l n r
     both-put a b = rw two-parts (in-turn most a b)
 
-    pub both-measured : {n m : ℕ} → Measured (firstLine first) 34 n → Measured (allLines (h .stage) bytes) (128 * tokenCount bytes) m
+    pub both-measured : {n m : ℕ} → Measured (firstLine first) (firstMost first) n → Measured (allLines (h .stage) bytes) (128 * tokenCount bytes) m
         → Measured text 262178 (n + m)
     both-measured a b = rw two-parts (add-lengths most a b)
 

@@ -2,7 +2,6 @@ pub mod Accepted
 pub mod Examples
 pub mod FirstLine
 pub mod Lined
-pub mod Place
 pub mod Room
 pub mod TokensRead
 pub mod Turn

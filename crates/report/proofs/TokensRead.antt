@@ -8,7 +8,8 @@ use Rattle.bytecode.specs.declared.answers.Refusal.{Refusal}
 use Rattle.bytecode.specs.declared.answers.Decoded.{Decoded}
 use Rattle.bytecode.specs.declared.answers.Decoded.the-variants.{Token as Accepted, Refused as NotDecoded}
 use Rattle.layout.specs.declared.record.Token.{Token}
-use Rattle.faults.specs.Order.{tokenAt, recordOf}
+use Rattle.bytecode.specs.Fields.{recordOf}
+use Rattle.layout.specs.Programs.{tokenAt}
 use Rattle.reader.specs.Reading.{readOf}
 use Rattle.reader.proofs.ReadsInOrder.{reads-token}
 

@@ -18,8 +18,8 @@ use Rattle.layout.specs.declared.record.Token.{Token}
 use Rattle.laws.proofs.Every.{left, right}
 use Rattle.listing.specs.Line.{lineOf, isNameable, destinationHasNames, operandHasNames}
 use Rattle.listing.specs.Writers.{Appends}
-use Rattle.faults.specs.Rules.{tokenCount}
-use Rattle.faults.specs.Order.{tokenAt, recordOf}
+use Rattle.layout.specs.Programs.{tokenCount, tokenAt}
+use Rattle.bytecode.specs.Fields.{recordOf}
 use Rattle.report.specs.Depth.{shownDepth, openedAfter}
 use Rattle.report.specs.Lines.{flowIn, linesFrom, Listable}
 use Rattle.report.specs.Writers.{allLines, HasRoom, forAny, forThis}

@@ -16,12 +16,12 @@ use Rattle.listing.specs.Printing.{Prints}
 use Rattle.listing.specs.declared.answers.Printed.{Printed}
 use Rattle.listing.specs.declared.first.FirstLine.{FirstLine}
 use Rattle.listing.specs.declared.first.FirstLine.the-variants.{Accepted as AcceptedLine, Refused as RefusedLine, NoEdition, InputTooLong}
-use Rattle.faults.specs.Rules.{tokenCount}
+use Rattle.layout.specs.Programs.{tokenCount}
 use Rattle.verifier.specs.Verdict.{verdict}
 use Rattle.verifier.specs.declared.answers.Program.{Program}
 use Rattle.verifier.specs.declared.answers.Checked.the-variants.{Accepted, Refused}
 use Rattle.report.specs.Lines.{linesFrom, Listable}
-use Rattle.report.specs.Text.{answerText, faultOf, isEdition, editionOf, textOf}
+use Rattle.report.specs.Text.{answerText, isEdition, editionOf, textOf}
 use Rattle.report.specs.Report.{Reports}
 use Rattle.report.specs.Writers.{linesAfter, HasLines, Opens}
 use Rattle.report.proofs.Accepted.{lists}
@@ -57,8 +57,8 @@ module _ (edition : ℕ) (bytes : List ℕ) (few : length bytes ≤ 49159) where
           };
         }
 
-  pub refused-opens : (f : Refusal) → verdict edition bytes ≡ Refused f → Opens (answerText edition bytes (verdict edition bytes)) bytes (RefusedLine (faultOf f))
-  refused-opens f e = alone (RefusedLine (faultOf f)) (ap (answerText edition bytes) e) refl tt
+  pub refused-opens : (f : Refusal) → verdict edition bytes ≡ Refused f → Opens (answerText edition bytes (verdict edition bytes)) bytes (RefusedLine f)
+  refused-opens f e = alone (RefusedLine f) (ap (answerText edition bytes) e) refl tt
 
 -- ---- the tests in their order
 
@@ -76,9 +76,9 @@ module _ (input : List ℕ) where
     no-edition e = alone NoEdition (simp (le-ltb 49160 (length input) h, eq-eqb (length input) 0 e)) refl tt
 
     module _ (n : length input ≡ 0 → ⊥) where
-      pub other-byte : isEdition (getD input 0 0) ≡ false → Opens (textOf input) (drop 1 input) (RefusedLine (faultOf (refusal 1 0 0)))
+      pub other-byte : isEdition (getD input 0 0) ≡ false → Opens (textOf input) (drop 1 input) (RefusedLine (refusal 1 0 0))
       unfolding textOf
-      other-byte e = alone (RefusedLine (faultOf (refusal 1 0 0))) (rw (le-ltb 49160 (length input) h, ne-eqb (length input) 0 n, e)) refl tt
+      other-byte e = alone (RefusedLine (refusal 1 0 0)) (rw (le-ltb 49160 (length input) h, ne-eqb (length input) 0 n, e)) refl tt
 
       pub with-edition : (edition : ℕ) → edition ≡ editionOf (getD input 0 0) → isEdition (getD input 0 0) ≡ true → {first : FirstLine}
           → Opens (answerText edition (take (length input - 1) (drop 1 input)) (verdict edition (take (length input - 1) (drop 1 input)))) (take (length input - 1) (drop 1 input)) first

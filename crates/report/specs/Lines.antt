@@ -9,7 +9,8 @@ use Rattle.layout.specs.Opcodes.{flowOf}
 use Rattle.layout.specs.declared.opcodes.Flow.{Flow}
 use Rattle.layout.specs.declared.record.Token.{Token}
 use Rattle.listing.specs.Line.{lineOf, isNameable}
-use Rattle.faults.specs.Order.{tokenAt, recordOf}
+use Rattle.bytecode.specs.Fields.{recordOf}
+use Rattle.layout.specs.Programs.{tokenAt}
 use Rattle.report.specs.Depth.{shownDepth, openedAfter}
 
 -- what a token does to branches

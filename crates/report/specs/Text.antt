@@ -6,24 +6,18 @@ use mathlib.Core.List.{List, _++_}
 use lib.Dec.{ltb, leb, eqb}
 use lib.ListN.{length, getD, drop}
 use Rattle.bytecode.specs.Decode.{refusal}
-use Rattle.bytecode.specs.declared.answers.Refusal.{Refusal}
-use Rattle.listing.specs.First.{headingLine, faultLine, firstLine}
-use Rattle.listing.specs.declared.first.Fault.{Fault}
+use Rattle.listing.specs.First.{headingLine, refusalLine, firstLine}
 use Rattle.listing.specs.declared.first.FirstLine.the-variants.{NoEdition, InputTooLong}
 use Rattle.verifier.specs.Verdict.{verdict}
 use Rattle.verifier.specs.declared.answers.Checked.{Checked}
 use Rattle.verifier.specs.declared.answers.Checked.the-variants.{Accepted, Refused}
 use Rattle.report.specs.Lines.{linesFrom}
 
--- a refusal as a first line has it
-abbrev pub faultOf : Refusal → Fault
-faultOf r = record { number = r .number; token = r .token; part = r .part }
-
 -- "It prints a first line .. and the token lines; or one line: .. a refusal"
 abbrev pub answerText : ℕ → List ℕ → Checked → List ℕ
 answerText edition bytes (Accepted p) =
     headingLine (record { edition = edition; stage = p .stage; tokens = p .tokens }) ++ linesFrom (p .stage) bytes 0 (p .tokens) 0
-answerText edition bytes (Refused r) = faultLine (faultOf r)
+answerText edition bytes (Refused r) = refusalLine r
 
 -- "the digits 1, 2, 3"
 abbrev pub isEdition : ℕ → Bool
@@ -41,4 +35,4 @@ textOf input =
     (cond (eqb (length input) 0) (firstLine NoEdition)
     (cond (isEdition (getD input 0 0))
     (answerText (editionOf (getD input 0 0)) (drop 1 input) (verdict (editionOf (getD input 0 0)) (drop 1 input)))
-    (faultLine (faultOf (refusal 1 0 0)))))
+    (refusalLine (refusal 1 0 0))))

@@ -8,7 +8,7 @@ use Rattle.listing.specs.First.{firstLine}
 use Rattle.listing.specs.Writers.{Appends}
 use Rattle.listing.specs.declared.first.FirstLine.{FirstLine}
 use Rattle.listing.specs.declared.first.FirstLine.the-variants.{Accepted, Refused, NoEdition, InputTooLong}
-use Rattle.faults.specs.Rules.{tokenCount}
+use Rattle.layout.specs.Programs.{tokenCount}
 use Rattle.report.specs.Lines.{linesFrom, Listable}
 
 -- a line for each token

@@ -1,12 +1,10 @@
 // What the first line of the text says.
 ghost use mathlib.Core.Path.{_≡_};
-ghost use Prim.Native.Nat.{_≤_, _<_};
+ghost use Prim.Native.Nat.{_≤_};
 ghost use lib.ListN.{length, drop};
 ghost use Rattle.verifier.specs.Verdict.{verdict};
-ghost use Rattle.report.specs.Text.{answerText, faultOf, isEdition as isEditionDigit, editionOf, textOf};
+ghost use Rattle.report.specs.Text.{answerText, isEdition as isEditionDigit, editionOf, textOf};
 ghost use Rattle.report.specs.Writers.{Opens};
-use bytecode::answers::Refusal;
-use listing::first::Fault;
 use listing::first::FirstLine;
 use listing::first::Heading;
 use verifier::answers::Checked;
@@ -22,12 +20,7 @@ pub(crate) fn first_of(input: &[u8]) -> FirstLine
     }
     let digit = input[0];
     if !is_edition(digit) {
-        let fault = Fault {
-            number: 1,
-            token: 0,
-            part: 0,
-        };
-        return FirstLine::Refused(fault);
+        return FirstLine::Refused(bytecode::refusal(1, 0, 0));
     }
     answer_of(edition_of(digit), &input[1..])
 }
@@ -60,18 +53,6 @@ fn answer_of(edition: u16, bytes: &[u8]) -> FirstLine
             };
             FirstLine::Accepted(heading)
         }
-        Checked::Refused(r) => FirstLine::Refused(fault_of(r)),
-    }
-}
-
-// A refusal of a program whose tokens 16 bits can number.
-fn fault_of(r: Refusal) -> Fault
-    requires { ⌜ r .token < 65536 ⌝ }
-    ensures { λ f. ⌜ f ≡ faultOf r ⌝ }
-{
-    Fault {
-        number: r.number,
-        token: r.token as u16,
-        part: r.part,
+        Checked::Refused(r) => FirstLine::Refused(r),
     }
 }

@@ -1,12 +1,11 @@
 // The text that agallist prints, into a lent buffer.
 ghost use lib.ListN.{length, drop};
-ghost use Rattle.listing.specs.First.{firstLine};
+ghost use Rattle.listing.specs.First.{firstLine, firstMost};
 ghost use Rattle.report.specs.Text.{textOf};
 ghost use Rattle.report.specs.Report.{Reports};
 ghost use Rattle.report.specs.Writers.{Opens, HasRoom, Measured, Fits, Puts};
 use crate::opening;
 use crate::tokens;
-use bytecode::answers::Refusal;
 use listing::answers::Printed;
 use listing::first::FirstLine;
 
@@ -16,12 +15,7 @@ pub fn report(input: &[u8], out: &mut [u8]) -> Printed
 {
     let first = opening::first_of(input);
     if !fits(out.len(), first, input) {
-        let short = Refusal {
-            number: 23,
-            token: 0,
-            part: 0,
-        };
-        return Printed::Refused(short);
+        return Printed::Refused(bytecode::refusal(23, 0, 0));
     }
     Printed::Length(put_text(out, first, input))
 }
@@ -50,9 +44,9 @@ fn text_length(first: FirstLine, input: &[u8]) -> usize
 }
 
 fn first_length(first: FirstLine) -> usize
-    ensures { λ r. ⌜ Measured (firstLine first) 34 r ⌝ }
+    ensures { λ r. ⌜ Measured (firstLine first) (firstMost first) r ⌝ }
 {
-    let mut line = [0u8; 34];
+    let mut line = [0u8; 49];
     put_first(&mut line, first)
 }
 
@@ -70,8 +64,8 @@ fn put_text(out: &mut [u8], first: FirstLine, input: &[u8]) -> usize
 }
 
 fn put_first(out: &mut [u8], first: FirstLine) -> usize
-    requires { ⌜ HasRoom (firstLine first) 34 0 (length (now out)) ⌝ }
-    ensures { λ r. ⌜ Puts (firstLine first) 34 0 (now (out .entry)) (now (out .exit)) r ⌝ }
+    requires { ⌜ HasRoom (firstLine first) (firstMost first) 0 (length (now out)) ⌝ }
+    ensures { λ r. ⌜ Puts (firstLine first) (firstMost first) 0 (now (out .entry)) (now (out .exit)) r ⌝ }
 {
     match listing::first_line(first, out) {
         Printed::Length(n) => n,

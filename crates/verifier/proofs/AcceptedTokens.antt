@@ -14,9 +14,10 @@ use Rattle.bytecode.proofs.DecodeLaws.{no-faults}
 use Rattle.registers.specs.Counts.{countOf}
 use Rattle.paths.specs.Nesting.{misplacedAt}
 use Rattle.paths.specs.Faults.{tokenFaultAt, Clean, Faultless}
-use Rattle.faults.specs.Rules.{stageOf, tokenCount}
-use Rattle.faults.specs.Order.{firstFault, headerRules, tokenRules, recordOf, tokenAt, tokensFrom, tokensOf}
-use Rattle.verifier.specs.Verdict.{program, verdict}
+use Rattle.layout.specs.Programs.{stageOf, tokenCount, tokenAt}
+use Rattle.bytecode.specs.Fields.{recordOf}
+use Rattle.faults.specs.Order.{firstFault, headerRules, tokenRules, tokensFrom, tokensOf}
+use Rattle.verifier.specs.Verdict.{program, verdict, checkedNumbers}
 use Rattle.verifier.specs.Exact.{HeaderRight}
 use Rattle.verifier.specs.Accepted.{WholeTokens, AcceptedDecodes}
 use Rattle.verifier.specs.declared.answers.Program.{Program}
@@ -50,7 +51,7 @@ module _ (edition : ℕ) (bytes : List ℕ) where
 
   module _ (p : Program) (e : verdict edition bytes ≡ Accepted p) where
     told : HeaderRight edition bytes × Faultless (tokensOf edition bytes) × (p .stage ≡ stageOf bytes) × (p .tokens ≡ tokenCount bytes)
-    told = exact-check edition bytes .accepts (p .stage) (p .tokens) .0 e
+    told = exact-check edition bytes .accepts (p .stage) (p .tokens) .0 (ap checkedNumbers e)
 
     header-kept : AllKept (headerRules edition bytes)
     header-kept = none-broken (headerRules edition bytes) (told .0)

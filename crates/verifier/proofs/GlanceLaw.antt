@@ -1,12 +1,12 @@
 -- What is known at a glance of a token is what its step does.
 -- Assumes nothing.
 use Prim.Native.Nat.{ℕ, _+_, _-_, _≤_}
-use mathlib.Core.Bool.{Bool, true, false, cond, false≢true}
+use mathlib.Core.Bool.{Bool, true, false, false≢true}
 use mathlib.Core.List.{List}
 use mathlib.Core.Path.{_≡_, refl, _∙_, sym, ap, ap₂}
 use native.Mathlib.Omega.{arith}
 use borrow.Author.Tests.{eq-eqb}
-use Rattle.bytecode.specs.Decode.{refusal, noRefusal, isClean}
+use Rattle.bytecode.specs.Decode.{noRefusal, isClean}
 use Rattle.bytecode.specs.Fields.{fieldsOf}
 use Rattle.layout.specs.Opcodes.{shapeOf, flowOf}
 use Rattle.layout.specs.Records.{registerOf, tokenOf}
@@ -15,13 +15,13 @@ use Rattle.layout.specs.declared.opcodes.Flow.{Flow}
 use Rattle.layout.specs.declared.opcodes.Flow.the-variants.{Plain, Opener, Els, Eif}
 use Rattle.layout.specs.declared.record.Token.{Token}
 use Rattle.layout.proofs.OpcodeLists.{plain-flow}
+use Rattle.layout.specs.Programs.{tokenAt}
 use Rattle.components.specs.Access.{lacksAccess, access1Of, access2Of}
 use Rattle.components.specs.QuickTests.{openerMayReadUnwritten}
 use Rattle.components.specs.ReadsWritten.{ReadsWritten}
 use Rattle.components.specs.declared.written.Written.{Written}
 use Rattle.components.proofs.AccessLaws.{lacks-reads1, lacks-reads2}
 use Rattle.faults.specs.Faults.{ownFault}
-use Rattle.faults.specs.Order.{tokenAt}
 use Rattle.faults.specs.LawfulTests.{usableOf, isLawfulBranch}
 use Rattle.faults.specs.Profile.{profileOf}
 use Rattle.faults.specs.declared.lawful.Usable.{Usable}
@@ -29,11 +29,13 @@ use Rattle.faults.specs.declared.profile.Profile.{Profile}
 use Rattle.faults.proofs.LawfulBranch.{LawfulBranch, lawful-branch}
 use Rattle.faults.proofs.LawfulToken.{LawfulToken}
 use Rattle.verifier.specs.Glance.{passedUnless, Whenever, Passes, opensUnwritten, branchStep, KnownBranch}
-use Rattle.verifier.specs.State.{misplacedAt, isMisplaced, metState, partedState, withCurrent, withFault, writtenBy, wroteState}
+use Rattle.verifier.specs.State.{misplacedAt, isMisplaced, metState, partedState, withCurrent, writtenBy, wroteState}
 use Rattle.verifier.specs.Step.{faultOfFields, followOf, stepOf}
 use Rattle.verifier.specs.Steps.{stepsOver}
 use Rattle.verifier.specs.declared.glance.Passed.{Passed}
+use Rattle.verifier.specs.declared.state.Branch.{Branch}
 use Rattle.verifier.specs.declared.state.State.{State}
+use Rattle.verifier.proofs.StepLaw.{byTests, follow-tests}
 use Rattle.verifier.proofs.StepsLaw.{one-more}
 
 not-plain : Opener ≡ Plain → ⊥
@@ -63,10 +65,10 @@ module _ (st : State) (sound : st .fault .number ≡ 0) (token : ℕ) where
   follow-right : (t : Token) (flow : Flow) → flowOf (t .opcode) ≡ flow → isMisplaced st flow ≡ false
       → lacksAccess (metState st flow .current) (access1Of t) ≡ false → lacksAccess (metState st flow .current) (access2Of t) ≡ false
       → followOf st token t ≡ partedState (wroteState (metState st flow) (t .destination)) flow token
-  unfolding followOf
   follow-right t flow e m a b =
-      ap (λ f. cond (isMisplaced st f) (withFault st (refusal 20 token 0)) (cond (lacksAccess (metState st f .current) (access1Of t)) (withFault st (refusal 21 token 2)) (cond (lacksAccess (metState st f .current) (access2Of t)) (withFault st (refusal 21 token 3)) (partedState (wroteState (metState st f) (t .destination)) f token)))) e
-      ∙ rw (m, a, b)
+      follow-tests st token t
+      ∙ ap (λ f. byTests st token t (isMisplaced st f) (lacksAccess (metState st f .current) (access1Of t)) (lacksAccess (metState st f .current) (access2Of t))) e
+      ∙ rw (m, a, b) (ap (λ f. partedState (wroteState (metState st f) (t .destination)) f token) e)
 
   passes : (edition stage : ℕ) (unwritten : Written → Fields → Bool) (f : Fields) → LawfulToken edition stage unwritten f → unwritten (st .current) f ≡ false
       → stepOf st (profileOf edition stage) token f ≡ withCurrent st (writtenBy (st .current) (registerOf (f .destination)))
@@ -116,12 +118,12 @@ module _ (f : Fields) (test : Profile → Usable → Bool) (unwritten : Written 
       current asked asks r made known st sound at token
 
 -- what the code answers of a branch: its flow, where it is lawful, in its place and reads nothing unwritten
-pub branch-known : (profile : Profile) (usable : Usable) (depth elsMet : ℕ) (current : Written) (f : Fields) (flow : Flow)
-    → isLawfulBranch profile usable f ≡ true → flow ≡ flowOf (f .opcode) → misplacedAt flow depth elsMet ≡ false → opensUnwritten flow current f ≡ false
-    → KnownBranch profile usable depth elsMet current f flow
-branch-known profile usable depth elsMet current f flow lawful is m l edition stage of used st sound at deep met token =
+pub branch-known : (profile : Profile) (usable : Usable) (depth : ℕ) (innermost : Branch) (current : Written) (f : Fields) (flow : Flow)
+    → isLawfulBranch profile usable f ≡ true → flow ≡ flowOf (f .opcode) → misplacedAt flow depth (innermost .«els_met») ≡ false → opensUnwritten flow current f ≡ false
+    → KnownBranch profile usable depth innermost current f flow
+branch-known profile usable depth innermost current f flow lawful is m l edition stage of used st sound at deep inner token =
     let p = lawful-branch edition stage f (ap₂ (λ p u. isLawfulBranch p u f) (sym of) (sym (used ∙ ap usableOf of)) ∙ lawful) in
-    by-flow flow (goes-by st sound token edition stage f p flow (sym is) (ap₂ (misplacedAt flow) deep met ∙ m) (ap (λ w. opensUnwritten flow w f) at ∙ l))
+    by-flow flow (goes-by st sound token edition stage f p flow (sym is) (ap₂ (λ d b. misplacedAt flow d (b .«els_met»)) deep inner ∙ m) (ap (λ w. opensUnwritten flow w f) at ∙ l))
   where
     by-flow : (flow : Flow) {next : State} → next ≡ partedState (metState st flow) flow token → branchStep flow st token next
     by-flow Plain e = tt

@@ -10,10 +10,11 @@ use native.Mathlib.Decide.{decLt}
 use lib.Dec.{eqb, lit≤}
 use lib.ListN.{length}
 use borrow.Author.Tests.{lt-ltb, ltb-false}
+use Rattle.layout.specs.Programs.{tokenCount}
 use Rattle.paths.specs.Paths.{TokenFault}
 use Rattle.paths.specs.Check.{verdictOf}
 use Rattle.registers.specs.Limits.{limitOf}
-use Rattle.faults.specs.Rules.{editionUnknown, tokenCount}
+use Rattle.faults.specs.Rules.{editionUnknown}
 use Rattle.faults.specs.Order.{Rule, firstFault, headerRules, tokensOf}
 use Rattle.faults.specs.Faults.{refusalAt}
 use Rattle.faults.specs.Header.{headerFault}

@@ -9,7 +9,7 @@ use native.Mathlib.Decide.{decLt}
 use native.Mathlib.Omega.{arith}
 use lib.Dec.{eqb, leb, leb→le}
 use borrow.Author.Tests.{leb-false, eq-eqb}
-use Rattle.bytecode.specs.Decode.{refusal}
+use Rattle.bytecode.specs.Decode.{refusal, noRefusal}
 use Rattle.bytecode.specs.declared.answers.Refusal.{Refusal}
 use Rattle.layout.specs.Opcodes.{flowOf}
 use Rattle.layout.specs.declared.opcodes.Flow.{Flow}
@@ -33,8 +33,8 @@ use Rattle.components.specs.Written.{componentSet}
 use Rattle.paths.specs.Check.{judge, lacks, setBefore, nextState, checkFrom}
 use Rattle.components.proofs.AccessLaws.{lacks-reads1, lacks-reads2}
 use Rattle.faults.specs.Rules.{destinationWrong}
-use Rattle.verifier.specs.State.{isMisplaced, metState, wroteState, partedState, withFault}
-use Rattle.verifier.specs.Step.{nextOf, followOf}
+use Rattle.verifier.specs.State.{isMisplaced, setMet, metState, wroteState, partedState, withFault}
+use Rattle.verifier.specs.Step.{nextOf, faultOfPaths, followOf}
 use Rattle.verifier.specs.declared.state.State.{State}
 use Rattle.verifier.proofs.Abstract.{abstractOf, branchesIn, misplaced-is, Valid}
 use Rattle.verifier.proofs.NextState.{Kept, wrote-is, nextAbstract, follows}
@@ -86,6 +86,32 @@ parted-fault st Opener n = refl
 parted-fault st Els n = refl
 parted-fault st Eif n = refl
 
+-- the set at hand of the state that a token meets
+met-current : (st : State) (f : Flow) → setMet f (st .current) (st .innermost .kept) ≡ metState st f .current
+met-current st Plain = refl
+met-current st Opener = refl
+met-current st Els = refl
+met-current st Eif = refl
+
+-- a step by the values of its tests
+abbrev pub byTests : State → ℕ → Token → Bool → Bool → Bool → State
+byTests st n t m a b = cond m (withFault st (refusal 20 n 0)) (cond a (withFault st (refusal 21 n 2)) (cond b (withFault st (refusal 21 n 3)) (nextOf st n t)))
+
+pub follow-tests : (st : State) (n : ℕ) (t : Token)
+    → let f = flowOf (t .opcode) in
+    followOf st n t ≡ byTests st n t (isMisplaced st f) (lacksAccess (metState st f .current) (access1Of t)) (lacksAccess (metState st f .current) (access2Of t))
+unfolding followOf faultOfPaths
+follow-tests st n t =
+    go (isMisplaced st (flowOf (t .opcode))) (lacksAccess (setMet (flowOf (t .opcode)) (st .current) (st .innermost .kept)) (access1Of t)) (lacksAccess (setMet (flowOf (t .opcode)) (st .current) (st .innermost .kept)) (access2Of t))
+    ∙ ap (λ w. byTests st n t (isMisplaced st (flowOf (t .opcode))) (lacksAccess w (access1Of t)) (lacksAccess w (access2Of t))) (met-current st (flowOf (t .opcode)))
+  where
+    go : (m a b : Bool) → let r = cond m (refusal 20 n 0) (cond a (refusal 21 n 2) (cond b (refusal 21 n 3) noRefusal)) in
+        cond (eqb (r .number) 0) (nextOf st n t) (withFault st r) ≡ byTests st n t m a b
+    go true a b = refl
+    go false true b = refl
+    go false false true = refl
+    go false false false = refl
+
 pub valid-fault : (st : State) → Valid st → (r : Refusal) → Valid (withFault st r)
 valid-fault st v r = record { depth = v .depth; kept = v .kept; openers = v .openers; elsMet = v .elsMet }
 
@@ -122,23 +148,20 @@ module _ (st : State) (v : Valid st) (sound : st .fault .number ≡ 0) (n : ℕ)
   next-sound = ap (λ r. r .number) (parted-fault (wroteState (metState st f) (t .destination)) f n ∙ wrote-fault (metState st f) (t .destination) ∙ met-fault st f) ∙ sound
 
   -- the tests by their values
-  abbrev byTests : Bool → Bool → Bool → State
-  byTests m a b = cond m (withFault st (refusal 20 n 0)) (cond a (withFault st (refusal 21 n 2)) (cond b (withFault st (refusal 21 n 3)) (nextOf st n t)))
-
   decided : (m a b : Bool) (later : Answer) → (m ≡ false → later ≡ checkFrom (abstractOf (nextOf st n t)) (suc n) rest)
-      → judge none m a b n later ≡ tells (byTests m a b) (suc n) rest
+      → judge none m a b n later ≡ tells (byTests st n t m a b) (suc n) rest
   decided true a b later k = refl
   decided false true b later k = refl
   decided false false true later k = refl
   decided false false false later k = k refl ∙ rw (eq-eqb (nextOf st n t .fault .number) 0 next-sound)
 
   pub followed : Kept (t .destination) → checkFrom (abstractOf st) n (pt ∷ rest) ≡ tells (followOf st n t) (suc n) rest
-  unfolding checkFrom followOf
-  followed k = go (isMisplaced st f) refl
+  unfolding checkFrom
+  followed k = go (isMisplaced st f) refl ∙ ap (λ s. tells s (suc n) rest) (sym (follow-tests st n t))
     where
       go : (m : Bool) → isMisplaced st f ≡ m
           → judge none (misplaced (pathFlow f) (branchesIn st)) (lacks (setBefore pt (abstractOf st)) (temporaries (reads1 t))) (lacks (setBefore pt (abstractOf st)) (temporaries (reads2 t))) n (checkFrom (nextState (abstractOf st) n pt) (suc n) rest)
-          ≡ tells (byTests (isMisplaced st f) (lacksAccess (metState st f .current) (access1Of t)) (lacksAccess (metState st f .current) (access2Of t))) (suc n) rest
+          ≡ tells (byTests st n t (isMisplaced st f) (lacksAccess (metState st f .current) (access1Of t)) (lacksAccess (metState st f .current) (access2Of t))) (suc n) rest
       go true e = rw (sym (misplaced-is st f) ∙ e, e)
       go false e =
           let b = lacks (setBefore pt (abstractOf st)) (temporaries (reads2 t)) in
@@ -149,12 +172,11 @@ module _ (st : State) (v : Valid st) (sound : st .fault .number ≡ 0) (n : ℕ)
           ∙ decided (isMisplaced st f) (lacksAccess (metState st f .current) (access1Of t)) (lacksAccess (metState st f .current) (access2Of t)) later (λ m. ap (λ x. checkFrom x (suc n) rest) (next-is m k .0))
 
   -- a step leaves a valid state
-  decided-valid : (m a b : Bool) → (m ≡ false → Valid (nextOf st n t)) → Valid (byTests m a b)
+  decided-valid : (m a b : Bool) → (m ≡ false → Valid (nextOf st n t)) → Valid (byTests st n t m a b)
   decided-valid true a b k = valid-fault st v (refusal 20 n 0)
   decided-valid false true b k = valid-fault st v (refusal 21 n 2)
   decided-valid false false true k = valid-fault st v (refusal 21 n 3)
   decided-valid false false false k = k refl
 
   pub follow-valid : Kept (t .destination) → Valid (followOf st n t)
-  unfolding followOf
-  follow-valid k = decided-valid (isMisplaced st f) (lacksAccess (metState st f .current) (access1Of t)) (lacksAccess (metState st f .current) (access2Of t)) (λ m. next-is m k .1)
+  follow-valid k = subst Valid (sym (follow-tests st n t)) (decided-valid (isMisplaced st f) (lacksAccess (metState st f .current) (access1Of t)) (lacksAccess (metState st f .current) (access2Of t)) (λ m. next-is m k .1))

@@ -18,10 +18,10 @@ use Rattle.paths.specs.Check.{start, checkFrom, verdictOf}
 use Rattle.bytecode.specs.Decode.{refusal, isClean, tokenFault}
 use Rattle.bytecode.specs.Fields.{fieldsOf, fieldsIn}
 use Rattle.layout.specs.Opcodes.{shapeOf}
+use Rattle.layout.specs.Programs.{tokenAt, stageOf, tokenCount}
 use Rattle.faults.specs.Faults.{undecodedFault}
-use Rattle.faults.specs.Order.{tokenAt, tokensFrom, tokensOf}
+use Rattle.faults.specs.Order.{tokensFrom, tokensOf}
 use Rattle.faults.specs.Profile.{profileOf}
-use Rattle.faults.specs.Rules.{stageOf, tokenCount}
 use Rattle.faults.specs.declared.profile.Profile.{Profile}
 use Rattle.verifier.specs.State.{noneWritten, startState, withFault}
 use Rattle.verifier.specs.Step.{faultOfFields, stepOf}

@@ -10,7 +10,7 @@ use lib.Dec.{eqb, ltb}
 use lib.ListN.{length}
 use borrow.Author.Tests.{eq-eqb, ne-eqb, eqb-true}
 use Rattle.bytecode.specs.Decode.{refusal, isClean, tokenFault, decodeOf}
-use Rattle.bytecode.specs.Fields.{fieldsOf}
+use Rattle.bytecode.specs.Fields.{fieldsOf, recordOf}
 use Rattle.bytecode.specs.declared.answers.Refusal.{Refusal}
 use Rattle.bytecode.specs.declared.answers.Decoded.the-variants.{Token as Accepted, Refused}
 use Rattle.layout.specs.Opcodes.{shapeOf}
@@ -23,7 +23,7 @@ use Rattle.components.specs.Tokens.{pathTokenOf}
 use Rattle.paths.specs.Check.{checkFrom}
 use Rattle.faults.specs.Rules.{opcodeTooNew, opcodeNotForStage, destinationWrong}
 use Rattle.faults.specs.Profile.{profileOf}
-use Rattle.faults.specs.Order.{firstFault, tokenRules, recordOf, pathTokenAt}
+use Rattle.faults.specs.Order.{firstFault, tokenRules, pathTokenAt}
 use Rattle.faults.specs.Faults.{refusalAt, ownFault, undecodedFault}
 use Rattle.verifier.specs.State.{withFault}
 use Rattle.verifier.specs.Step.{faultOfFields, followOf, stepOf}

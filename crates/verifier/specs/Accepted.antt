@@ -5,7 +5,8 @@ use mathlib.Core.Path.{_≡_}
 use lib.ListN.{length}
 use Rattle.bytecode.specs.Decode.{decodeOf}
 use Rattle.bytecode.specs.declared.answers.Decoded.the-variants.{Token as Decodes}
-use Rattle.faults.specs.Order.{recordOf, tokenAt}
+use Rattle.bytecode.specs.Fields.{recordOf}
+use Rattle.layout.specs.Programs.{tokenAt}
 use Rattle.verifier.specs.Verdict.{verdict}
 use Rattle.verifier.specs.declared.answers.Program.{Program}
 use Rattle.verifier.specs.declared.answers.Checked.the-variants.{Accepted}

@@ -39,15 +39,15 @@ bare opcode =
     ∷ []
 
 -- "els 20"
-abbrev pub els : List ℕ
+abbrev els : List ℕ
 els = bare 0x20
 
 -- "eif 21"
-abbrev pub eif : List ℕ
+abbrev eif : List ℕ
 eif = bare 0x21
 
 -- ife va0.xyzw va0.xyzw
-abbrev pub ife : List ℕ
+abbrev ife : List ℕ
 ife =
     0x1c ∷ 0x00 ∷ 0x00 ∷ 0x00
     ∷ 0x00 ∷ 0x00 ∷ 0x00 ∷ 0x00

@@ -1,8 +1,9 @@
 -- What is known of a token that is passed at a glance: what its step makes of the state.
-use Prim.Native.Nat.{ℕ, _-_, _≤_}
+use Prim.Native.Nat.{ℕ, _+_, _*_, _-_, _≤_, _<_}
 use mathlib.Core.Bool.{Bool, true, false}
 use mathlib.Core.List.{List}
 use mathlib.Core.Path.{_≡_}
+use lib.ListN.{length}
 use Rattle.layout.specs.Records.{registerOf}
 use Rattle.layout.specs.declared.fields.Fields.{Fields}
 use Rattle.layout.specs.declared.opcodes.Flow.{Flow}
@@ -18,6 +19,7 @@ use Rattle.verifier.specs.Step.{stepOf}
 use Rattle.verifier.specs.Steps.{stepsOver}
 use Rattle.verifier.specs.declared.glance.Passed.{Passed}
 use Rattle.verifier.specs.declared.glance.Run.{Run}
+use Rattle.verifier.specs.declared.state.Branch.{Branch}
 use Rattle.verifier.specs.declared.state.State.{State}
 
 -- a token without a fault of its own, unless it may read what is not written
@@ -56,8 +58,15 @@ branchStep Opener st token next = next ≡ openedState st token
 branchStep Els st token next = next ≡ exchangedState st
 branchStep Eif st token next = next ≡ joinedState st
 
--- the step of a token of a branch, where so many branches are open and the els of the innermost was met or not
-abbrev pub KnownBranch : Profile → Usable → ℕ → ℕ → Written → Fields → Flow → Type 0
-KnownBranch profile usable depth elsMet current f flow =
+-- the step of a token of a branch, where so many branches are open and this is the innermost
+abbrev pub KnownBranch : Profile → Usable → ℕ → Branch → Written → Fields → Flow → Type 0
+KnownBranch profile usable depth innermost current f flow =
     Whenever profile usable current
-    (λ p st. st .depth ≡ depth → st .innermost .«els_met» ≡ elsMet → (token : ℕ) → branchStep flow st token (stepOf st p token f))
+    (λ p st. st .depth ≡ depth → st .innermost ≡ innermost → (token : ℕ) → branchStep flow st token (stepOf st p token f))
+
+-- what the tokens are judged with: a profile, what is usable in it, and so many tokens as there are at least and as can be counted
+pub record CanJudge (profile : Profile) (usable : Usable) (bytes : List ℕ) (count : ℕ) : Type 0 where
+  pub made : profile ≡ profileOf (profile .edition) (profile .stage)
+  pub used : usable ≡ usableOf profile
+  pub there : 7 + count * 24 ≤ length bytes
+  pub few : count < 65536

@@ -56,6 +56,13 @@ misplacedAt Eif depth elsMet = ltb depth 1
 abbrev pub isMisplaced : State → Flow → Bool
 isMisplaced st flow = misplacedAt flow (st .depth) (st .innermost .«els_met»)
 
+-- the set at hand as a token is met, where this one was kept for the innermost branch
+abbrev pub setMet : Flow → Written → Written → Written
+setMet Plain current kept = current
+setMet Opener current kept = current
+setMet Els current kept = kept
+setMet Eif current kept = joinOf current kept
+
 -- a state by what a token changes in it: the set at hand, the innermost branch and how many are open
 abbrev pub changed : State → Written → Branch → ℕ → State
 changed st current innermost depth =

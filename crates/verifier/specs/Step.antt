@@ -2,29 +2,39 @@
 use Prim.Native.Nat.{ℕ}
 use mathlib.Core.Bool.{cond}
 use lib.Dec.{eqb}
-use Rattle.bytecode.specs.Decode.{refusal, isClean, tokenFault}
+use Rattle.bytecode.specs.Decode.{refusal, noRefusal, isClean, tokenFault}
 use Rattle.bytecode.specs.declared.answers.Refusal.{Refusal}
 use Rattle.layout.specs.Opcodes.{shapeOf, flowOf}
 use Rattle.layout.specs.Records.{tokenOf}
 use Rattle.layout.specs.declared.fields.Fields.{Fields}
+use Rattle.layout.specs.declared.opcodes.Flow.{Flow}
 use Rattle.layout.specs.declared.record.Token.{Token}
 use Rattle.components.specs.Access.{lacksAccess, access1Of, access2Of}
+use Rattle.components.specs.declared.written.Written.{Written}
 use Rattle.faults.specs.Faults.{ownFault, undecodedFault}
 use Rattle.faults.specs.declared.profile.Profile.{Profile}
-use Rattle.verifier.specs.State.{isMisplaced, metState, wroteState, partedState, withFault}
+use Rattle.verifier.specs.State.{misplacedAt, setMet, metState, wroteState, partedState, withFault}
+use Rattle.verifier.specs.declared.state.Branch.{Branch}
 use Rattle.verifier.specs.declared.state.State.{State}
 
 -- the state after a token without a fault
 abbrev pub nextOf : State → ℕ → Token → State
 nextOf st token t = partedState (wroteState (metState st (flowOf (t .opcode))) (t .destination)) (flowOf (t .opcode)) token
 
--- 20, 21 through source 1, 21 through source 2, else the next
+-- 20, 21 through source 1, 21 through source 2, by what they ask of a state
+unfoldable pub faultOfPaths : Flow → ℕ → Branch → Written → ℕ → Token → Refusal
+faultOfPaths flow depth innermost current token t =
+    cond (misplacedAt flow depth (innermost .«els_met»)) (refusal 20 token 0)
+    (cond (lacksAccess (setMet flow current (innermost .kept)) (access1Of t)) (refusal 21 token 2)
+    (cond (lacksAccess (setMet flow current (innermost .kept)) (access2Of t)) (refusal 21 token 3)
+    noRefusal))
+
+abbrev pub pathsFault : State → ℕ → Token → Refusal
+pathsFault st token t = faultOfPaths (flowOf (t .opcode)) (st .depth) (st .innermost) (st .current) token t
+
+-- such a fault, else the next state
 unfoldable pub followOf : State → ℕ → Token → State
-followOf st token t =
-    cond (isMisplaced st (flowOf (t .opcode))) (withFault st (refusal 20 token 0))
-    (cond (lacksAccess (metState st (flowOf (t .opcode)) .current) (access1Of t)) (withFault st (refusal 21 token 2))
-    (cond (lacksAccess (metState st (flowOf (t .opcode)) .current) (access2Of t)) (withFault st (refusal 21 token 3))
-    (nextOf st token t)))
+followOf st token t = cond (eqb (pathsFault st token t .number) 0) (nextOf st token t) (withFault st (pathsFault st token t))
 
 -- 9 to 19: those of a record that decode takes, or the fault of fields that it refuses
 unfoldable pub faultOfFields : Profile → ℕ → Fields → Refusal

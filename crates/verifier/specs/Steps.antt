@@ -5,9 +5,8 @@ use mathlib.Core.List.{List}
 use lib.Dec.{eqb}
 use Rattle.bytecode.specs.Decode.{refusal}
 use Rattle.bytecode.specs.Fields.{fieldsOf}
-use Rattle.faults.specs.Order.{tokenAt}
+use Rattle.layout.specs.Programs.{tokenAt, stageOf, tokenCount}
 use Rattle.faults.specs.Profile.{profileOf}
-use Rattle.faults.specs.Rules.{stageOf, tokenCount}
 use Rattle.faults.specs.declared.profile.Profile.{Profile}
 use Rattle.verifier.specs.State.{startState}
 use Rattle.verifier.specs.Step.{stepOf}

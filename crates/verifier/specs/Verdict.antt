@@ -7,14 +7,14 @@ use mathlib.Core.Option.{Option, none, some}
 use lib.Dec.{leb}
 use lib.ListN.{length}
 use Rattle.layout.specs.Opcodes.{shapeOf}
-use Rattle.bytecode.specs.Decode.{refusal, noRefusal}
+use Rattle.bytecode.specs.Decode.{refusal}
 use Rattle.bytecode.specs.Fields.{fieldsOf}
-use Rattle.bytecode.specs.declared.answers.Refusal.{Refusal}
+use Rattle.bytecode.specs.Numbers.{Numbers, acceptedNumbers, refusalNumbers}
 use Rattle.paths.specs.Paths.{TokenFault}
 use Rattle.paths.specs.Faults.{Answer, accepted, refused}
 use Rattle.paths.specs.Check.{verdictOf}
-use Rattle.faults.specs.Rules.{stageOf, tokenCount}
-use Rattle.faults.specs.Order.{firstFault, headerRules, tokenAt, tokensOf}
+use Rattle.layout.specs.Programs.{stageOf, tokenCount, tokenAt}
+use Rattle.faults.specs.Order.{firstFault, headerRules, tokensOf}
 use Rattle.verifier.specs.declared.answers.Program.{Program}
 use Rattle.verifier.specs.declared.answers.Checked.{Checked}
 use Rattle.verifier.specs.declared.answers.Checked.the-variants.{Accepted, Refused}
@@ -40,7 +40,7 @@ unfoldable pub verdict : ℕ → List ℕ → Checked
 verdict edition bytes =
     afterHeader (firstFault (headerRules edition bytes)) (answerOf bytes (verdictOf (tokensOf edition bytes)))
 
--- the paper's numbers of an answer; all 0 where nothing is refused
-abbrev pub checkedNumbers : Checked → Refusal
-checkedNumbers (Accepted p) = noRefusal
-checkedNumbers (Refused r) = r
+-- the paper's numbers of an answer: "accepted with stage and token count, or a refusal number, a token number from 0, and a part"
+abbrev pub checkedNumbers : Checked → Numbers
+checkedNumbers (Accepted p) = acceptedNumbers (p .stage) (p .tokens)
+checkedNumbers (Refused r) = refusalNumbers r

@@ -2,9 +2,11 @@
 ghost use mathlib.Core.Path.{_≡_};
 ghost use Prim.Native.Nat.{_<_, _≤_};
 ghost use lib.ListN.{length};
-ghost use Rattle.faults.specs.Rules.{tokenCount};
+ghost use Rattle.layout.specs.Programs.{tokenCount};
 ghost use Rattle.verifier.specs.Verdict.{opensUnlisted};
-ghost use Rattle.verifier.specs.Steps.{finishOf, judgedBy};
+ghost use Rattle.verifier.specs.State.{startState};
+ghost use Rattle.verifier.specs.Steps.{stepsOver, finishOf, judgedBy};
+ghost use Rattle.verifier.specs.Glance.{CanJudge};
 ghost use Rattle.verifier.specs.Exact.{Checks};
 use crate::answers::Checked;
 use crate::answers::Program;
@@ -12,6 +14,8 @@ use crate::glance;
 use crate::places;
 use crate::state;
 use crate::state::State;
+use faults::lawful::Usable;
+use faults::profile::Profile;
 use layout::opcodes;
 use layout::opcodes::Flow;
 
@@ -24,7 +28,7 @@ pub fn check(edition: u32, bytes: &[u8]) -> Checked
         return Checked::Refused(fault);
     }
     if opens_unlisted(bytes) {
-        return Checked::Refused(faults::refusal(9, 0, 0));
+        return Checked::Refused(bytecode::refusal(9, 0, 0));
     }
     check_tokens(edition, bytes)
 }
@@ -43,22 +47,29 @@ fn opens_unlisted(bytes: &[u8]) -> bool
     !shape.listed
 }
 
-// Faults 9 to 22 of a program that has a header. What a branch's token does is chosen here and not in one method for all: the compiler then
-// changes the state in its place, where it would copy it into the method and out again.
+// Faults 9 to 22 of a program that has a header.
 fn check_tokens(edition: u32, bytes: &[u8]) -> Checked
     requires { ⌜ 7 ≤ length (now bytes) ⌝ }
     requires { ⌜ tokenCount (now bytes) < 65536 ⌝ }
     ensures { λ r. ⌜ r ≡ judgedBy edition (now (bytes .entry)) ⌝ }
 {
-    let mut state = state::START;
-    let mut token = 0;
     let stage = bytes[6];
     let count = (bytes.len() - 7) / 24;
     let profile = faults::profile_of(edition, stage);
     let usable = faults::usable_of(profile);
+    last_state(profile, usable, bytes, count).finish(stage, count)
+}
+
+// The state after so many tokens, or after the first of them that has a fault. What a branch's token does is chosen here and not in one method
+// for all: the compiler then changes the state in its place, where it would copy it into the method and out again.
+fn last_state(profile: Profile, usable: Usable, bytes: &[u8], count: usize) -> State
+    requires { ⌜ CanJudge profile usable (now bytes) count ⌝ }
+    ensures { λ r. ⌜ r ≡ stepsOver profile (now (bytes .entry)) startState 0 count ⌝ }
+{
+    let mut state = state::START;
+    let mut token = 0;
     while token < count {
-        let current = state.current;
-        let run = glance::pass_tokens(profile, usable, current, bytes, token, count);
+        let run = glance::pass_tokens(profile, usable, state.current, bytes, token, count);
         let current = run.current;
         state.current = current;
         token = run.token;
@@ -67,16 +78,8 @@ fn check_tokens(edition: u32, bytes: &[u8]) -> Checked
         }
         let f = places::fields_at(bytes, token);
         let number = token as u16;
-        let innermost = state.innermost;
         token += 1;
-        let known = glance::known_branch(
-            profile,
-            usable,
-            state.depth,
-            innermost.els_met,
-            current,
-            f,
-        );
+        let known = glance::known_branch(profile, usable, state.depth, state.innermost, current, f);
         match known {
             Flow::Opener => {
                 state = state.opened(number);
@@ -93,12 +96,11 @@ fn check_tokens(edition: u32, bytes: &[u8]) -> Checked
             Flow::Plain => {}
         }
         state = state.step(profile, number, f);
-        let fault = state.fault;
-        if fault.number != 0 {
-            return Checked::Refused(fault);
+        if state.fault.number != 0 {
+            return state;
         }
     }
-    state.finish(stage, count)
+    state
 }
 
 impl State {
@@ -114,6 +116,6 @@ impl State {
             return Checked::Accepted(Program { stage, tokens });
         }
         let innermost = self.innermost;
-        Checked::Refused(faults::refusal(22, innermost.opener as usize, 0))
+        Checked::Refused(bytecode::refusal(22, innermost.opener as usize, 0))
     }
 }

@@ -7,6 +7,7 @@ ghost use lib.ListN.{length};
 ghost use Rattle.verifier.specs.Glance.{Passes, passedUnless, RunsOver, opensUnwritten, KnownBranch};
 use crate::places;
 use crate::state;
+use crate::state::Branch;
 use components::quick;
 use components::written::Written;
 use faults::lawful::Usable;
@@ -110,17 +111,17 @@ pub(crate) fn known_branch(
     profile: Profile,
     usable: Usable,
     depth: usize,
-    els_met: u8,
+    innermost: Branch,
     current: Written,
     f: Fields,
 ) -> Flow
-    ensures { λ r. ⌜ KnownBranch profile usable depth «els_met» current f r ⌝ }
+    ensures { λ r. ⌜ KnownBranch profile usable depth innermost current f r ⌝ }
 {
     if !faults::is_lawful_branch(profile, usable, f) {
         return Flow::Plain;
     }
     let flow = opcodes::flow_of(f.opcode);
-    if state::is_misplaced(flow, depth, els_met) {
+    if state::is_misplaced(flow, depth, innermost.els_met) {
         return Flow::Plain;
     }
     if reads_unwritten(flow, current, f) {

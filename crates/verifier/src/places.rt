@@ -3,7 +3,7 @@ ghost use mathlib.Core.Path.{_≡_};
 ghost use Prim.Native.Nat.{_+_, _*_, _≤_};
 ghost use lib.ListN.{length};
 ghost use Rattle.bytecode.specs.Fields.{fieldsOf};
-ghost use Rattle.faults.specs.Order.{tokenAt};
+ghost use Rattle.layout.specs.Programs.{tokenAt};
 use layout::fields::Fields;
 
 // The fields of a token.

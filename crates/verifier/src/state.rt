@@ -5,7 +5,7 @@ ghost use mathlib.Core.Bool.{cond};
 ghost use mathlib.Core.Path.{_≡_};
 ghost use Prim.Native.Nat.{_<_};
 ghost use Rattle.layout.specs.Records.{destinationOf};
-ghost use Rattle.verifier.specs.State.{slotOf, slotAround, misplacedAt, isMisplaced, withFault, exchangedState, joinedState, metState, openedState, partedState, writtenBy, wroteState};
+ghost use Rattle.verifier.specs.State.{slotOf, slotAround, misplacedAt, setMet, withFault, exchangedState, joinedState, metState, openedState, partedState, writtenBy, wroteState};
 use bytecode::answers::Refusal;
 use components::written;
 use components::written::Written;
@@ -76,6 +76,18 @@ pub(crate) fn is_misplaced(flow: Flow, depth: usize, els_met: u8) -> bool
     }
 }
 
+// The set at hand as a token is met: els takes up the set that was kept, eif joins the sets of both blocks.
+pub(crate) fn set_met(flow: Flow, current: Written, kept: Written) -> Written
+    ensures { λ r. ⌜ r ≡ setMet flow current kept ⌝ }
+{
+    match flow {
+        Flow::Plain => current,
+        Flow::Opener => current,
+        Flow::Els => kept,
+        Flow::Eif => written::join(current, kept),
+    }
+}
+
 impl State {
     // The same state with a fault.
     pub(crate) fn refused(mut self, fault: Refusal) -> State
@@ -85,14 +97,7 @@ impl State {
         self
     }
 
-    pub(crate) fn is_misplaced(self, flow: Flow) -> bool
-        ensures { λ r. ⌜ r ≡ isMisplaced self flow ⌝ }
-    {
-        let innermost = self.innermost;
-        is_misplaced(flow, self.depth, innermost.els_met)
-    }
-
-    // As a token is met: els takes up the set from before the branch, eif joins the sets of both blocks and closes the branch.
+    // As a token is met: els exchanges the set at hand and the kept one, eif joins them and closes the branch.
     pub(crate) fn met(self, flow: Flow) -> State
         ensures { λ r. ⌜ r ≡ metState self flow ⌝ }
     {

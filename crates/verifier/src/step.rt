@@ -2,13 +2,17 @@
 ghost use mathlib.Core.Path.{_≡_};
 ghost use Rattle.layout.specs.Opcodes.{shapeOf};
 ghost use Rattle.layout.specs.Records.{tokenOf};
-ghost use Rattle.verifier.specs.Step.{faultOfFields, followOf, stepOf};
+ghost use Rattle.verifier.specs.Step.{faultOfFields, faultOfPaths, stepOf};
+use crate::state;
+use crate::state::Branch;
 use crate::state::State;
 use bytecode::answers::Refusal;
 use components::access;
+use components::written::Written;
 use faults::profile::Profile;
 use layout::fields::Fields;
 use layout::opcodes;
+use layout::opcodes::Flow;
 use layout::opcodes::Shape;
 
 impl State {
@@ -26,28 +30,43 @@ impl State {
         if fault.number != 0 {
             return self.refused(fault);
         }
-        self.follow(token, shape, f)
-    }
-
-    // 20, 21, and the next state.
-    fn follow(self, token: u16, shape: Shape, f: Fields) -> State
-        ensures { λ r. ⌜ r ≡ followOf self token (tokenOf shape f) ⌝ }
-    {
         let flow = opcodes::flow_of(f.opcode);
-        if self.is_misplaced(flow) {
-            return self.refused(faults::refusal(20, token as usize, 0));
+        let current = self.current;
+        let innermost = self.innermost;
+        let fault = fault_of_paths(flow, self.depth, innermost, current, token, shape, f);
+        if fault.number != 0 {
+            return self.refused(fault);
         }
-        let met = self.met(flow);
-        let current = met.current;
-        if access::reads_unwritten1(current, shape, f) {
-            return self.refused(faults::refusal(21, token as usize, 2));
-        }
-        if access::reads_unwritten2(current, shape, f) {
-            return self.refused(faults::refusal(21, token as usize, 3));
-        }
-        met.wrote(shape.destination, f.destination)
+        self.met(flow)
+            .wrote(shape.destination, f.destination)
             .parted(flow, token)
     }
+}
+
+// 20 and 21, of what they ask of a state.
+fn fault_of_paths(
+    flow: Flow,
+    depth: usize,
+    innermost: Branch,
+    current: Written,
+    token: u16,
+    shape: Shape,
+    f: Fields,
+) -> Refusal
+    ensures { λ r. ⌜ r ≡ faultOfPaths flow depth innermost current token (tokenOf shape f) ⌝ }
+{
+    if state::is_misplaced(flow, depth, innermost.els_met) {
+        return bytecode::refusal(20, token as usize, 0);
+    }
+    let kept = innermost.kept;
+    let met = state::set_met(flow, current, kept);
+    if access::reads_unwritten1(met, shape, f) {
+        return bytecode::refusal(21, token as usize, 2);
+    }
+    if access::reads_unwritten2(met, shape, f) {
+        return bytecode::refusal(21, token as usize, 3);
+    }
+    bytecode::refusal(0, 0, 0)
 }
 
 // The first of faults 9 to 19.

@@ -106,6 +106,7 @@ fn read_reference(program: &[u8]) {
 /// Fails unless both sides judge each program of a case alike, and list it alike, and the case says how many tokens are judged.
 pub fn agree(case: &Case) {
     let mut judged = 0;
+    let mut text = vec![0; REPORT_MAX];
     for input in &case.inputs {
         let ours = raw::check(EDITION, &input[1..]);
         match reference::check(&input[1..], EDITION) {
@@ -117,7 +118,6 @@ pub fn agree(case: &Case) {
         } else {
             ours.token + 1
         };
-        let mut text = vec![0; REPORT_MAX];
         let length = raw::report(input, &mut text).value;
         assert_eq!(text[..length], reference::report(input));
     }

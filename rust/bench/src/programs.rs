@@ -1,7 +1,9 @@
 //! The programs that are measured: edition 3, and for fragments where nothing else is said.
 
-use generate::Rng;
-use reference::{encode, Destination, Operand, Sampler, Source, Token, HEADER_LEN, TOKEN_LEN};
+use generate::{build, Habit, Plan, Rng};
+use reference::{
+    check, encode, Destination, Operand, Sampler, Source, Token, HEADER_LEN, TOKEN_LEN,
+};
 
 /// Temporary registers that a program writes first and then reads.
 const TEMPORARIES: usize = 4;
@@ -12,6 +14,10 @@ const XYZW: u8 = 15;
 const IDENTITY: u8 = 0xe4;
 /// No opcode has this number.
 const UNLISTED: u8 = 0x2b;
+/// So many openers that they are never the limit.
+const ANY: usize = usize::MAX;
+/// How many different programs of one token a case has.
+const SINGLE: usize = 4_000;
 
 /// What is measured together: programs, each as an input of the listing, and how much of them is judged.
 pub struct Case {
@@ -36,8 +42,16 @@ pub fn case(name: &str) -> Option<Case> {
         "nested-8" => whole("nested-8", vec![program(1, 2_048, 8)]),
         "nested-16" => whole("nested-16", vec![program(1, 2_048, 16)]),
         "small" => whole("small", (0..1_000).map(|s| program(s, 20, 0)).collect()),
-        "mixed-vertex" => whole("mixed-vertex", (0..200).map(|s| mixed(s, 0)).collect()),
-        "mixed-fragment" => whole("mixed-fragment", (0..200).map(|s| mixed(s, 1)).collect()),
+        "mixed-vertex" => whole("mixed-vertex", mixed(200, 200, 0, ANY)),
+        "mixed-fragment" => whole("mixed-fragment", mixed(200, 200, 1, ANY)),
+        "many-vertex" => whole("many-vertex", mixed(100, 500, 0, 0)),
+        "many-fragment" => whole("many-fragment", mixed(100, 500, 1, 0)),
+        "many-vertex-branches" => whole("many-vertex-branches", mixed(100, 500, 0, ANY)),
+        "many-fragment-branches" => whole("many-fragment-branches", mixed(100, 500, 1, ANY)),
+        "single" => whole("single", single()),
+        "single-14" => whole("single-14", single_refused(14, spoil_destination)),
+        "single-17" => whole("single-17", single_refused(17, spoil_source)),
+        "single-21" => whole("single-21", single_refused(21, read_temporary)),
         "first" => refused("first", 0),
         "last" => refused("last", 2_047),
         _ => return None,
@@ -54,12 +68,82 @@ fn whole(name: &'static str, inputs: Vec<Vec<u8>>) -> Case {
     }
 }
 
+/// Lawful programs of the tests, of one stage.
+fn mixed(programs: u64, tokens: usize, stage: u8, openers: usize) -> Vec<Vec<u8>> {
+    let seeded = |seed| lawful(&mut Rng::new(seed), stage, tokens, openers);
+    (0..programs).map(seeded).collect()
+}
+
 /// A lawful program of the tests: any token, on any registers, may follow another.
-fn mixed(seed: u64, stage: u8) -> Vec<u8> {
-    let case = generate::plain_program(&mut Rng::new(seed), 3, stage, 200);
+fn lawful(rng: &mut Rng, stage: u8, tokens: usize, openers: usize) -> Vec<u8> {
+    let plan = Plan {
+        edition: 3,
+        stage,
+        tokens,
+        openers,
+        depth: 16,
+        opening: 15,
+        closing: 20,
+        habit: Habit::Sound,
+    };
     let mut input = vec![b'3'];
-    input.extend(case.program);
+    input.extend(build(rng, &plan));
     input
+}
+
+/// Programs of one token, of either stage.
+fn single() -> Vec<Vec<u8>> {
+    let mut rng = Rng::new(1);
+    (0..SINGLE).map(|_| one_token(&mut rng)).collect()
+}
+
+fn one_token(rng: &mut Rng) -> Vec<u8> {
+    let stage = rng.below(2) as u8;
+    lawful(rng, stage, 1, 0)
+}
+
+/// Programs of one token that is refused by a number once it is spoiled.
+fn single_refused(number: u8, spoil: fn(&mut Rng, &mut [u8])) -> Vec<Vec<u8>> {
+    let mut rng = Rng::new(number.into());
+    let mut inputs = Vec::new();
+    while inputs.len() < SINGLE {
+        let mut input = one_token(&mut rng);
+        spoil(&mut rng, &mut input[1 + HEADER_LEN..]);
+        if check(&input[1..], 3).is_err_and(|r| r.number == number) {
+            inputs.push(input);
+        }
+    }
+    inputs
+}
+
+/// A destination of any type, or with a number above those that can be written.
+fn spoil_destination(rng: &mut Rng, token: &mut [u8]) {
+    if rng.percent(50) {
+        token[7] = rng.below(7) as u8;
+    } else {
+        token[4] = rng.between(26, 255) as u8;
+    }
+}
+
+/// A direct source of any type, or with a number above most counts.
+fn spoil_source(rng: &mut Rng, token: &mut [u8]) {
+    let source = &mut token[8 * rng.between(1, 2)..];
+    if rng.percent(50) {
+        source[4] = rng.below(7) as u8;
+    } else {
+        source[0] = rng.between(10, 255) as u8;
+    }
+    source[2] = 0;
+    source[7] = 0;
+}
+
+/// A source that is a temporary register.
+fn read_temporary(rng: &mut Rng, token: &mut [u8]) {
+    let source = &mut token[8 * rng.between(1, 2)..];
+    source[0] = rng.below(26) as u8;
+    source[2] = 0;
+    source[4] = TEMPORARY;
+    source[7] = 0;
 }
 
 /// The straight program with a fault at a token.

@@ -12,7 +12,7 @@ const PASSES: usize = 5;
 /// A table's heading, and its rows: words and the name of a case.
 type Section = (&'static str, &'static [(&'static str, &'static str)]);
 
-const SECTIONS: [Section; 4] = [
+const SECTIONS: [Section; 6] = [
     (
         "Programs",
         &[
@@ -49,6 +49,36 @@ const SECTIONS: [Section; 4] = [
                 "200 fragment programs of up to 200 tokens",
                 "mixed-fragment",
             ),
+        ],
+    ),
+    (
+        "Many different programs, each judged once in turn",
+        &[
+            (
+                "100 vertex programs of 500 tokens, no branches",
+                "many-vertex",
+            ),
+            (
+                "100 fragment programs of 500 tokens, no branches",
+                "many-fragment",
+            ),
+            (
+                "100 vertex programs of 500 tokens, with branches",
+                "many-vertex-branches",
+            ),
+            (
+                "100 fragment programs of 500 tokens, with branches",
+                "many-fragment-branches",
+            ),
+        ],
+    ),
+    (
+        "Programs of one token, 4,000 different ones in turn",
+        &[
+            ("accepted", "single"),
+            ("refused by 14", "single-14"),
+            ("refused by 17", "single-17"),
+            ("refused by 21", "single-21"),
         ],
     ),
 ];

@@ -1,8 +1,8 @@
 //! The reader, on whole and damaged programs.
 
 use agal::raw::{self, Answer};
-use differential::{exact, flat, plain, refused, rounds, safe, Lent, Tally};
-use generate::{program, small_program, Case, Rng};
+use differential::{done, exact, flat, plain, refused, rounds, safe, Lent, Tally};
+use generate::{plain_program, program, small_program, Case, Rng};
 use reference::{decode, Refusal, Token, TokenReader};
 
 /// What reading at a place comes to.
@@ -15,7 +15,7 @@ fn expected(read: Result<Token, Refusal>, place: usize, room: usize) -> (Answer,
         _ => Ok(flat::of(&token).to_vec()),
     });
     match read {
-        Ok(written) => (differential::done(place + 1), written),
+        Ok(written) => (done(place + 1), written),
         // A refused reader stays where it is.
         Err(refusal) => {
             let mut answer = refused(refusal);
@@ -111,4 +111,31 @@ fn programs() {
     }
     in_turn.is_full([9, 12, 13, 24]);
     anywhere.is_full([9, 12, 13, 23, 24]);
+}
+
+/// A program of up to one token, cut at every length: below 7 bytes it can't be opened, below 31 it has no token.
+#[test]
+fn openings() {
+    let mut rng = Rng::new(52);
+    let mut tally = Tally::default();
+    let whole = plain_program(&mut rng, 1, 0, 1);
+    for length in 0..=31 {
+        let case = Case {
+            edition: 1,
+            program: exact(&whole.program[..length]).into_vec(),
+        };
+        let opened = TokenReader::open(&case.program).1;
+        let wanted = if length < 7 { Err(plain(2)) } else { Ok(()) };
+        assert_eq!(opened, wanted, "{}", case.hex());
+        let mut flat = [0; flat::SIZE];
+        let answer = raw::read(&case.program, 0, &mut flat);
+        let wanted = if length < 31 {
+            refused(plain(24))
+        } else {
+            done(1)
+        };
+        assert_eq!(answer, wanted, "{}", case.hex());
+        compare_in_turn(&mut rng, &case, &mut tally);
+        compare_iterator(&case);
+    }
 }

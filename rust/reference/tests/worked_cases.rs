@@ -140,6 +140,105 @@ fn index_registers_are_read() {
     assert_eq!(check_vertex(1, &[mov]), accepted(VERTEX, 1));
 }
 
+/// nrm, crs, dp3 and m33 read by three selectors, dp4, m34 and m44 by four, whatever the mask.
+#[test]
+fn selectors_that_no_mask_chooses() {
+    let write = |mask| token(0x00, (2, 0, mask), direct(1, 0, E4), 0);
+    let constant = direct(1, 0, E4);
+    let opcodes = [
+        (0x0e, 0),
+        (0x11, constant),
+        (0x12, constant),
+        (0x17, constant),
+    ];
+    for (opcode, source2) in opcodes {
+        let reads = token(opcode, (3, 0, X), direct(2, 0, E4), source2);
+        assert_eq!(check_vertex(1, &[write(X), reads]), refused(21, 1, 2));
+        assert_eq!(check_vertex(1, &[write(XYZ), reads]), accepted(VERTEX, 2));
+    }
+    for opcode in [0x13, 0x18, 0x19] {
+        let reads = token(opcode, (3, 0, X), direct(2, 0, E4), constant);
+        assert_eq!(check_vertex(1, &[write(XYZ), reads]), refused(21, 1, 2));
+        assert_eq!(check_vertex(1, &[write(XYZW), reads]), accepted(VERTEX, 2));
+    }
+    for opcode in [0x11, 0x12] {
+        let reads = token(opcode, (3, 0, X), constant, direct(2, 0, E4));
+        assert_eq!(check_vertex(1, &[write(X), reads]), refused(21, 1, 3));
+        assert_eq!(check_vertex(1, &[write(XYZ), reads]), accepted(VERTEX, 2));
+    }
+}
+
+/// On one way source 1 is unwritten, on the other source 2.
+#[test]
+fn the_part_is_of_all_ways() {
+    let add = |a, b| token(0x01, (3, 0, XYZW), direct(2, a, E4), direct(2, b, E4));
+    let branch = [ife(), write(0), els(), write(1), eif()];
+    for (a, b) in [(0, 1), (1, 0)] {
+        let mut tokens = branch.to_vec();
+        tokens.push(add(a, b));
+        assert_eq!(check_vertex(2, &tokens), refused(21, 5, 2));
+    }
+}
+
+/// A register of another type with the same number is another register.
+#[test]
+fn only_temporaries_are_written() {
+    let write = |kind| token(0x00, (kind, 0, XYZW), direct(1, 0, E4), 0);
+    for kind in [3, 4] {
+        assert_eq!(check_vertex(1, &[write(kind), read(0)]), refused(21, 1, 2));
+    }
+    for kind in [3, 6] {
+        let tokens = program(FRAGMENT, &[write(kind), read(0)]);
+        assert_eq!(check(&tokens, 2), refused(21, 1, 2));
+    }
+}
+
+/// A number of 256 has a low byte of 0.
+#[test]
+fn numbers_of_two_bytes() {
+    let mov = |to, from| token(0x00, to, from, 0);
+    let (out, constant) = ((3, 0, XYZW), direct(1, 0, E4));
+    for kind in [2, 3, 4] {
+        let tokens = [mov((kind, 256, XYZW), constant)];
+        assert_eq!(check_vertex(3, &tokens), refused(14, 0, 1));
+    }
+    for kind in [0, 1, 2] {
+        let tokens = [mov(out, indexed((kind, 256, 0), 0, E4))];
+        assert_eq!(check_vertex(3, &tokens), refused(16, 0, 2));
+        let tokens = [mov(out, direct(kind, 256, E4))];
+        assert_eq!(check_vertex(3, &tokens), refused(17, 0, 2));
+    }
+    let tex = |number| token(0x28, out, direct(4, 0, E4), direct(5, number, 0));
+    let check = |number| check(&program(FRAGMENT, &[tex(number)]), 3);
+    assert_eq!(check(0), accepted(FRAGMENT, 1));
+    assert_eq!(check(256), refused(19, 0, 3));
+}
+
+/// The first fault is named: by token, then by number.
+#[test]
+fn the_order_of_faults() {
+    assert_eq!(check_vertex(2, &[read(0), eif()]), refused(21, 0, 2));
+    assert_eq!(check_vertex(1, &[eif()]), refused(10, 0, 0));
+    assert_eq!(check_vertex(1, &[els()]), refused(10, 0, 0));
+    // kil in a vertex program, with a destination that it has no use for.
+    let kil = token(0x27, (3, 0, XYZW), direct(1, 0, 0), 0);
+    assert_eq!(check_vertex(1, &[kil]), refused(11, 0, 0));
+    assert_eq!(check(&program(FRAGMENT, &[kil]), 1), refused(12, 0, 1));
+    // Mask 0 before a source that has a fault, source 1 before source 2, both before an unwritten one.
+    let faulty = direct(3, 0, E4);
+    let mov = token(0x00, (3, 0, 0), faulty, 0);
+    assert_eq!(check_vertex(1, &[mov]), refused(15, 0, 1));
+    let add = token(0x01, (3, 0, XYZW), faulty, indexed((3, 0, 0), 0, E4));
+    assert_eq!(check_vertex(1, &[add]), refused(17, 0, 2));
+    let add = token(0x01, (3, 0, XYZW), direct(2, 0, E4), faulty);
+    assert_eq!(check_vertex(1, &[add]), refused(17, 0, 3));
+    // An index is for vertex programs, of whatever type its register is.
+    for kind in [0, 1, 2] {
+        let mov = token(0x00, (3, 0, XYZW), indexed((kind, 0, 0), 0, E4), 0);
+        assert_eq!(check(&program(FRAGMENT, &[mov]), 2), refused(16, 0, 2));
+    }
+}
+
 #[test]
 fn texture_coordinates() {
     let tex = |dimension: u64| {

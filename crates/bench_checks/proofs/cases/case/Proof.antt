@@ -86,6 +86,17 @@ slice-aggregate-repeated c = search needs
 repeated-requires : tie.Need-repeated-requires
 repeated-requires c κs = search needs
 
+array-share-prefix-bytes-5 : tie.Need-array-share-prefix-bytes-5
+array-share-prefix-bytes-5 c = search needs
+
+slice-aggregate-named : tie.Need-slice-aggregate-named
+slice-aggregate-named c =
+    let r = c .before .before .before .read in
+    sym (length-take-le (r .result) (r .last .1 .0) (r .ensures))
+
+named-requires : tie.Need-named-requires
+named-requires c κs = search needs
+
 slice-aggregate-text : tie.Need-slice-aggregate-text
 slice-aggregate-text c = search needs
 
@@ -109,6 +120,9 @@ returns-7 c = search needs
 
 returns-8 : tie.Need-returns-8
 returns-8 c = search needs
+
+returns-9 : tie.Need-returns-9
+returns-9 c = search needs
 
 pub case-spec : {M : Type 1} → statement M
 case-spec =
@@ -138,6 +152,9 @@ case-spec =
     checked-requires
     slice-aggregate-repeated
     repeated-requires
+    array-share-prefix-bytes-5
+    slice-aggregate-named
+    named-requires
     slice-aggregate-text
     text-requires-2
     returns-3
@@ -145,4 +162,5 @@ case-spec =
     returns-5
     returns-6
     returns-7
-    returns-8)
+    returns-8
+    returns-9)

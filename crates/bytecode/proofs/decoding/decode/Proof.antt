@@ -12,11 +12,11 @@ use borrow.Author.Needs.{needs}
 use Rattle.bytecode.proofs.decoding.decode.Statement.{statement}
 use Rattle.bytecode.proofs.decoding.decode.Tie as tie
 
-refused-requires : tie.Need-refused-requires
-refused-requires c κs = search needs
+refusal-requires : tie.Need-refusal-requires
+refusal-requires c κs = search needs
 
 returns : tie.Need-returns
-returns c = rw (c .refused .ensures) (wrong-length _ (c .before .if1 .taken))
+returns c = rw (c .refusal .ensures) (wrong-length _ (c .before .if1 .taken))
 
 read-fields-requires : tie.Need-read-fields-requires
 read-fields-requires c κs = search needs
@@ -57,7 +57,7 @@ pub decode-spec : {M : Type 1} → statement M
 decode-spec =
     tie.close
     (tie.spec
-    refused-requires
+    refusal-requires
     returns
     read-fields-requires
     shape-of-requires

@@ -6,24 +6,24 @@ use Rattle.bytecode.specs.Decode.{tokenFault}
 use Rattle.bytecode.proofs.decoding.fault_of.Statement.{statement}
 use Rattle.bytecode.proofs.decoding.fault_of.Tie as tie
 
-refused-requires : tie.Need-refused-requires
-refused-requires c κs = search needs
+refusal-requires : tie.Need-refusal-requires
+refusal-requires c κs = search needs
 
 returns : tie.Need-returns
 unfolding tokenFault
-returns c = simp (c .refused .ensures, c .before .if1 .taken)
+returns c = simp (c .refusal .ensures, c .before .if1 .taken)
 
 unused-part-requires : tie.Need-unused-part-requires
 unused-part-requires c κs = search needs
 
-refused-requires-2 : tie.Need-refused-requires-2
-refused-requires-2 c κs = search needs
+refusal-requires-2 : tie.Need-refusal-requires-2
+refusal-requires-2 c κs = search needs
 
 returns-2 : tie.Need-returns-2
 unfolding tokenFault
 returns-2 c =
     simp (
-      c .refused2 .ensures,
+      c .refusal2 .ensures,
       c .before .before .before .if1 .left,
       ← c .before .before .unused-part .ensures,
       ne-eqb _ _ (c .before .if2 .taken),
@@ -32,14 +32,14 @@ returns-2 c =
 undefined-part-requires : tie.Need-undefined-part-requires
 undefined-part-requires c κs = search needs
 
-refused-requires-3 : tie.Need-refused-requires-3
-refused-requires-3 c κs = search needs
+refusal-requires-3 : tie.Need-refusal-requires-3
+refusal-requires-3 c κs = search needs
 
 returns-3 : tie.Need-returns-3
 unfolding tokenFault
 returns-3 c =
     simp (
-      c .refused3 .ensures,
+      c .refusal3 .ensures,
       c .before .before .before .before .before .if1 .left,
       ← c .before .before .before .before .unused-part .ensures,
       eq-eqb _ _ (c .before .before .before .if2 .left),
@@ -47,14 +47,14 @@ returns-3 c =
       ne-eqb _ _ (c .before .if3 .taken),
     )
 
-refused-requires-4 : tie.Need-refused-requires-4
-refused-requires-4 c κs = search needs
+refusal-requires-4 : tie.Need-refusal-requires-4
+refusal-requires-4 c κs = search needs
 
 returns-4 : tie.Need-returns-4
 unfolding tokenFault
 returns-4 c =
     simp (
-      c .refused4 .ensures,
+      c .refusal4 .ensures,
       c .before .before .before .before .before .if1 .left,
       ← c .before .before .before .before .unused-part .ensures,
       eq-eqb _ _ (c .before .before .before .if2 .left),
@@ -66,13 +66,13 @@ pub fault-of-spec : {M : Type 1} → statement M
 fault-of-spec =
     tie.close
     (tie.spec
-    refused-requires
+    refusal-requires
     returns
     unused-part-requires
-    refused-requires-2
+    refusal-requires-2
     returns-2
     undefined-part-requires
-    refused-requires-3
+    refusal-requires-3
     returns-3
-    refused-requires-4
+    refusal-requires-4
     returns-4)

@@ -10,21 +10,21 @@ use Rattle.bytecode.proofs.encoding.encode.Tie as tie
 encodable-requires : tie.Need-encodable-requires
 encodable-requires c κs = search needs
 
-refused-requires : tie.Need-refused-requires
-refused-requires c κs = search needs
+refusal-requires : tie.Need-refusal-requires
+refusal-requires c κs = search needs
 
 returns : tie.Need-returns
 returns c =
     let e = c .before .before .encodable in
-    rw (c .refused .ensures) (not-encodable _ _ (sym (e .ensures) ∙ not-true (e .result) (c .before .if1 .taken)))
+    rw (c .refusal .ensures) (not-encodable _ _ (sym (e .ensures) ∙ not-true (e .result) (c .before .if1 .taken)))
 
-refused-requires-2 : tie.Need-refused-requires-2
-refused-requires-2 c κs = search needs
+refusal-requires-2 : tie.Need-refusal-requires-2
+refusal-requires-2 c κs = search needs
 
 returns-2 : tie.Need-returns-2
 returns-2 c =
     let e = c .before .before .before .encodable in
-    rw (c .refused2 .ensures) (too-short _ _ (sym (e .ensures) ∙ not-false (e .result) (c .before .before .if1 .left)) (c .before .if2 .taken))
+    rw (c .refusal2 .ensures) (too-short _ _ (sym (e .ensures) ∙ not-false (e .result) (c .before .before .if1 .left)) (c .before .if2 .taken))
 
 pack-token-requires : tie.Need-pack-token-requires
 pack-token-requires c κs =
@@ -48,9 +48,9 @@ encode-spec =
     tie.close
     (tie.spec
     encodable-requires
-    refused-requires
+    refusal-requires
     returns
-    refused-requires-2
+    refusal-requires-2
     returns-2
     pack-token-requires
     write-fields-requires

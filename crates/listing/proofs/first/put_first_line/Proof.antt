@@ -15,8 +15,8 @@ put-heading-requires c κs = search needs
 enum-known-first-2 : tie.Need-enum-known-first-2
 enum-known-first-2 c = search needs
 
-put-fault-requires : tie.Need-put-fault-requires
-put-fault-requires c κs = search needs
+put-refusal-requires : tie.Need-put-refusal-requires
+put-refusal-requires c κs = search needs
 
 enum-told : tie.Need-enum-told
 enum-told c = search needs
@@ -46,7 +46,7 @@ same-length-2 : tie.Need-same-length-2
 same-length-2 c = search needs
 
 returns-2 : tie.Need-returns-2
-returns-2 c = rw (c .before .before .before .before .before .first2 .given .1) (c .before .before .put-fault .ensures)
+returns-2 c = rw (c .before .before .before .before .before .first2 .given .1) (c .before .before .put-refusal .ensures)
 
 same-length-3 : tie.Need-same-length-3
 same-length-3 c = search needs
@@ -67,7 +67,7 @@ put-first-line-spec =
     enum-known-first
     put-heading-requires
     enum-known-first-2
-    put-fault-requires
+    put-refusal-requires
     enum-told
     slice-aggregate-put-bytes
     put-bytes-requires

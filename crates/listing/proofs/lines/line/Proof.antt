@@ -13,13 +13,13 @@ use Rattle.listing.proofs.lines.line.Tie as tie
 nameable-requires : tie.Need-nameable-requires
 nameable-requires c κs = search needs
 
-refused-requires : tie.Need-refused-requires
-refused-requires c κs = search needs
+refusal-requires : tie.Need-refusal-requires
+refusal-requires c κs = search needs
 
 returns : tie.Need-returns
 returns c =
     let n = c .before .before .nameable in
-    rw (c .refused .ensures) (not-nameable _ _ _ _ (sym (n .ensures) ∙ not-true (n .result) (c .before .if1 .taken)))
+    rw (c .refusal .ensures) (not-nameable _ _ _ _ (sym (n .ensures) ∙ not-true (n .result) (c .before .if1 .taken)))
 
 put-line-requires : tie.Need-put-line-requires
 put-line-requires c κs =
@@ -68,7 +68,7 @@ line-spec =
     tie.close
     (tie.spec
     nameable-requires
-    refused-requires
+    refusal-requires
     returns
     put-line-requires
     same-length

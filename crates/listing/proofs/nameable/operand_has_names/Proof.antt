@@ -16,8 +16,8 @@ enum-known-operand-2 c = search needs
 enum-known-operand-3 : tie.Need-enum-known-operand-3
 enum-known-operand-3 c = search needs
 
-sampler-has-names-requires : tie.Need-sampler-has-names-requires
-sampler-has-names-requires c κs = search needs
+settings-wrong-requires : tie.Need-settings-wrong-requires
+settings-wrong-requires c κs = search needs
 
 returns : tie.Need-returns
 returns c = search needs
@@ -29,7 +29,7 @@ returns-3 : tie.Need-returns-3
 returns-3 c = simp (c .before .before .before .operand2 .given .1)
 
 returns-4 : tie.Need-returns-4
-returns-4 c = simp (c .sampler-has-names .ensures, c .before .before .operand3 .given .1)
+returns-4 c = simp (c .settings-wrong .ensures, c .before .before .operand3 .given .1)
 
 pub operand-has-names-spec : {M : Type 1} → statement M
 operand-has-names-spec =
@@ -39,7 +39,7 @@ operand-has-names-spec =
     enum-known-operand
     enum-known-operand-2
     enum-known-operand-3
-    sampler-has-names-requires
+    settings-wrong-requires
     returns
     returns-2
     returns-3

@@ -5,11 +5,11 @@ use Rattle.listing.proofs.PrintLaws.{too-short, printed}
 use Rattle.listing.proofs.printing.print.Statement.{statement}
 use Rattle.listing.proofs.printing.print.Tie as tie
 
-refused-requires : tie.Need-refused-requires
-refused-requires c κs = search needs
+refusal-requires : tie.Need-refusal-requires
+refusal-requires c κs = search needs
 
 returns : tie.Need-returns
-returns c = rw (c .refused .ensures) (too-short _ _ (c .before .if1 .taken))
+returns c = rw (c .refusal .ensures) (too-short _ _ (c .before .if1 .taken))
 
 put-bytes-requires : tie.Need-put-bytes-requires
 put-bytes-requires c κs = search needs
@@ -23,4 +23,4 @@ returns-2 c =
     printed (p .ensures) (c .before .before .before .before .if1 .left) (p .kept .0) .0
 
 pub print-spec : {M : Type 1} → statement M
-print-spec = tie.close (tie.spec refused-requires returns put-bytes-requires same-length returns-2)
+print-spec = tie.close (tie.spec refusal-requires returns put-bytes-requires same-length returns-2)

@@ -10,15 +10,15 @@ enum-known-answer c = search needs
 enum-known-answer-2 : tie.Need-enum-known-answer-2
 enum-known-answer-2 c = search needs
 
-refused-requires : tie.Need-refused-requires
-refused-requires c κs = search needs
+refusal-requires : tie.Need-refusal-requires
+refusal-requires c κs = search needs
 
 returns : tie.Need-returns
 returns c = cc
 
 returns-2 : tie.Need-returns-2
-returns-2 c = cc
+returns-2 c = rw (c .refusal .ensures, c .before .before .answer2 .given .1)
 
 pub stands-at-spec : {M : Type 1} → statement M
 stands-at-spec =
-    tie.close (tie.spec enum-known-answer enum-known-answer-2 refused-requires returns returns-2)
+    tie.close (tie.spec enum-known-answer enum-known-answer-2 refusal-requires returns returns-2)

@@ -3,7 +3,6 @@
 use borrow.Author.Needs.{needs}
 use mathlib.Core.Path.{_∙_, sym}
 use denote.Ref.{now}
-use Rattle.report.proofs.Place.{refused-token}
 use Rattle.report.proofs.Whole.{tokens-few, accepted-opens, refused-opens}
 use Rattle.report.proofs.opening.answer_of.Statement.{statement}
 use Rattle.report.proofs.opening.answer_of.Tie as tie
@@ -22,11 +21,6 @@ cast-t9 c =
 enum-known-r : tie.Need-enum-known-r
 enum-known-r c = search needs
 
-fault-of-requires : tie.Need-fault-of-requires
-fault-of-requires c κs =
-    let start = c .before .before .before .before .before in
-    refused-token (start .args .edition) (now (start .args .bytes)) (start .pre) _ (sym (c .before .before .before .check .ensures .answer) ∙ c .before .r .given .1)
-
 returns : tie.Need-returns
 returns c =
     let start = c .before .before .before .before .before .before in
@@ -34,8 +28,8 @@ returns c =
 
 returns-2 : tie.Need-returns-2
 returns-2 c =
-    let start = c .before .before .before .before .before .before in
-    rw (c .fault-of .ensures) (refused-opens (start .args .edition) (now (start .args .bytes)) (start .pre) _ (sym (c .before .before .before .before .check .ensures .answer) ∙ c .before .before .r .given .1))
+    let start = c .before .before .before .before .before in
+    refused-opens (start .args .edition) (now (start .args .bytes)) (start .pre) _ (sym (c .before .before .before .check .ensures .answer) ∙ c .before .r .given .1)
 
 pub answer-of-spec : {M : Type 1} → statement M
 answer-of-spec =
@@ -45,6 +39,5 @@ answer-of-spec =
     enum-known-program
     cast-t9
     enum-known-r
-    fault-of-requires
     returns
     returns-2)

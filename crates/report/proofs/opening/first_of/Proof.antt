@@ -23,10 +23,14 @@ shared-slice-read-digit c = search needs
 is-edition-requires : tie.Need-is-edition-requires
 is-edition-requires c κs = search needs
 
+refusal-requires : tie.Need-refusal-requires
+refusal-requires c κs = search needs
+
 returns-3 : tie.Need-returns-3
 returns-3 c =
-    let edition = c .before .is-edition in
-    other-byte _ (c .before .before .before .before .if1 .left) (c .before .before .before .if2 .left) (sym (edition .ensures) ∙ not-true (edition .result) (c .if3 .taken))
+    let edition = c .before .before .is-edition in
+    rw (c .refusal .ensures)
+    (other-byte _ (c .before .before .before .before .before .if1 .left) (c .before .before .before .before .if2 .left) (sym (edition .ensures) ∙ not-true (edition .result) (c .before .if3 .taken)))
 
 edition-of-requires : tie.Need-edition-of-requires
 edition-of-requires c κs =
@@ -58,6 +62,7 @@ first-of-spec =
     returns-2
     shared-slice-read-digit
     is-edition-requires
+    refusal-requires
     returns-3
     edition-of-requires
     sub-answer-of

@@ -1,6 +1,7 @@
 -- `first_length` meets its contract.
 -- Assumes nothing.
 use borrow.Author.Needs.{needs}
+use Rattle.listing.proofs.FirstMost.{first-most}
 use Rattle.report.specs.Writers.{forAny}
 use Rattle.report.proofs.Room.{put-length}
 use Rattle.report.proofs.reporting.first_length.Statement.{statement}
@@ -10,7 +11,7 @@ slice-aggregate-put-first : tie.Need-slice-aggregate-put-first
 slice-aggregate-put-first c = search needs
 
 put-first-requires : tie.Need-put-first-requires
-put-first-requires c κs = forAny (search needs)
+put-first-requires c κs = forAny (search (needs, first-most (c .before .args .first)))
 
 returns : tie.Need-returns
 returns c = put-length (c .before .put-first .ensures)

@@ -2,10 +2,9 @@
 -- Assumes nothing.
 use borrow.Author.Needs.{needs}
 use mathlib.Core.Path.{sym, subst}
-use lib.Dec.{lit≤}
 use denote.Ref.{now}
 use Rattle.report.specs.Writers.{HasRoom}
-use Rattle.report.proofs.FirstLine.{cut, first-room, only, listed, lines-room, both-put, has-digit}
+use Rattle.report.proofs.FirstLine.{cut, first-short, first-room, only, listed, lines-room, both-put, has-digit}
 use Rattle.report.proofs.Room.{wider}
 use Rattle.report.proofs.reporting.put_text.Statement.{statement}
 use Rattle.report.proofs.reporting.put_text.Tie as tie
@@ -49,7 +48,7 @@ same-length-2 : tie.Need-same-length-2
 same-length-2 c = search needs
 
 returns-2 : tie.Need-returns-2
-returns-2 c = rw (only (c .before .before .before .before .before .before .before .pre .0) (c .match .keys2)) (wider (lit≤ tt) (c .before .before .before .put-first .ensures))
+returns-2 c = rw (only (c .before .before .before .before .before .before .before .pre .0) (c .match .keys2)) (wider (first-short (c .before .before .before .before .before .before .before .pre .0)) (c .before .before .before .put-first .ensures))
 
 pub put-text-spec : {M : Type 1} → statement M
 put-text-spec =

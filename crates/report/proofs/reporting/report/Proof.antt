@@ -16,11 +16,14 @@ first-of-requires c κs = search needs
 fits-requires : tie.Need-fits-requires
 fits-requires c κs = search needs
 
+refusal-requires : tie.Need-refusal-requires
+refusal-requires c κs = search needs
+
 returns : tie.Need-returns
 returns c =
-    let fits = c .before .fits2 in
-    let (long, short) = subst (Fits _ _) (not-true (fits .result) (c .if1 .taken)) (fits .ensures) in
-    reported (too-short _ _ long, short)
+    let fits = c .before .before .fits2 in
+    let (long, short) = subst (Fits _ _) (not-true (fits .result) (c .before .if1 .taken)) (fits .ensures) in
+    rw (c .refusal .ensures) (reported (too-short _ _ long, short))
 
 put-text-requires : tie.Need-put-text-requires
 put-text-requires c κs =
@@ -39,4 +42,4 @@ returns-2 c =
 pub report-spec : {M : Type 1} → statement M
 report-spec =
     tie.close
-    (tie.spec first-of-requires fits-requires returns put-text-requires same-length returns-2)
+    (tie.spec first-of-requires fits-requires refusal-requires returns put-text-requires same-length returns-2)

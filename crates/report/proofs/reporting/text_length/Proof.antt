@@ -1,9 +1,8 @@
 -- `text_length` meets its contract.
 -- Assumes nothing.
 use borrow.Author.Needs.{needs}
-use lib.Dec.{lit≤}
 use denote.Ref.{now}
-use Rattle.report.proofs.FirstLine.{cut, only, listed, both-measured, has-digit}
+use Rattle.report.proofs.FirstLine.{cut, first-short, only, listed, both-measured, has-digit}
 use Rattle.report.proofs.Room.{longer}
 use Rattle.report.proofs.reporting.text_length.Statement.{statement}
 use Rattle.report.proofs.reporting.text_length.Tie as tie
@@ -43,7 +42,7 @@ returns c =
     both-measured (cut (now (start .args .input)) (start .pre)) (c .before .before .before .first .given .1) (c .before .before .before .before .before .first-length .ensures) (c .tokens-length .ensures)
 
 returns-2 : tie.Need-returns-2
-returns-2 c = rw (only (c .before .before .before .pre) (c .match .keys2)) (longer (lit≤ tt) (c .before .first-length .ensures))
+returns-2 c = rw (only (c .before .before .before .pre) (c .match .keys2)) (longer (first-short (c .before .before .before .pre)) (c .before .first-length .ensures))
 
 pub text-length-spec : {M : Type 1} → statement M
 text-length-spec =

@@ -8,7 +8,7 @@ use native.Mathlib.Omega.{arith}
 use lib.ListN.{length, take, drop}
 use denote.Ref.{now}
 use Rattle.listing.proofs.Writing.{onwards}
-use Rattle.faults.specs.Rules.{tokenCount}
+use Rattle.layout.specs.Programs.{tokenCount}
 use Rattle.report.specs.Lines.{linesFrom}
 use Rattle.report.specs.Writers.{allLines, HasRoom}
 use Rattle.report.proofs.Turn.{Walked, decodes, nameable, low, line-room, walks, grows, starts, starts-text, finished, at-end}

@@ -4,7 +4,7 @@ use borrow.Author.Needs.{needs}
 use Prim.Native.Nat.{_-_}
 use native.Mathlib.Omega.{arith}
 use denote.Ref.{now}
-use Rattle.faults.specs.Rules.{tokenCount}
+use Rattle.layout.specs.Programs.{tokenCount}
 use Rattle.report.proofs.Turn.{Walked, decodes, nameable, low, walks, starts, at-end}
 use Rattle.report.proofs.tokens.tokens_length.Statement.{statement}
 use Rattle.report.proofs.tokens.tokens_length.Tie as tie

@@ -31,7 +31,7 @@ returns-3 c = search needs
 returns-4 : tie.Need-returns-4
 returns-4 c =
     let a = c .before .before .before .before .before .before .before .args in
-    branch-known (a .profile) (a .usable) (a .depth) (a .els-met) (a .current) (a .f) _
+    branch-known (a .profile) (a .usable) (a .depth) (a .innermost) (a .current) (a .f) _
     (sym (c .before .before .before .before .before .before .is-lawful-branch .ensures .0) ∙ not-false _ (c .before .before .before .before .before .if1 .left))
     (c .before .before .before .before .flow-of .ensures)
     (sym (c .before .before .before .is-misplaced .ensures) ∙ c .before .before .if2 .left)
