@@ -34,7 +34,7 @@ module _ (lent : RefT (List ℕ)) (opened : Opened) (reads : ℕ → Read) (run 
       ∙ ap (λ l. placeAfter (now l) (reads i .reader .place)) (program-kept i)
       ∙ ap (placeAfter (now lent)) (place-run i)
 
-  answer-run : (i : ℕ) → reads i .answer ≡ readOf (now lent) (placeOpened (now lent) i)
+  pub answer-run : (i : ℕ) → reads i .answer ≡ readOf (now lent) (placeOpened (now lent) i)
   answer-run zero =
       run .first .reads .answer
       ∙ ap (λ l. readOf (now l) (opened .reader .place)) (run .opens .program)

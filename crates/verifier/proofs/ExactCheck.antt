@@ -28,7 +28,7 @@ use Rattle.faults.proofs.OwnFault.{token-numbered}
 -- ---- the numbers of faults
 
 -- those of the tokens by themselves are 9 to 19
-tokens-numbered : (edition : ℕ) (bytes : List ℕ) (at left : ℕ) → TokenFaultsNumbered (tokensFrom edition bytes at left)
+pub tokens-numbered : (edition : ℕ) (bytes : List ℕ) (at left : ℕ) → TokenFaultsNumbered (tokensFrom edition bytes at left)
 tokens-numbered edition bytes at zero n f e = absurd (Option·none-ne-some f e)
 tokens-numbered edition bytes at (suc left) zero f e =
     token-numbered (λ k. countOf k edition (stageOf bytes)) edition (stageOf bytes) (tokenAt bytes at) f e

@@ -1,0 +1,5 @@
+pub mod Bytes
+pub mod Checking
+pub mod Reading
+pub mod RefusedPrograms
+pub mod RightPrograms

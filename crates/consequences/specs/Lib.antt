@@ -1,0 +1,4 @@
+pub mod Branching
+pub mod Bytes
+pub mod Checking
+pub mod Reading
