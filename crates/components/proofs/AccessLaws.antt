@@ -14,14 +14,14 @@ use Rattle.layout.specs.declared.record.Operand.{Operand}
 use Rattle.layout.specs.declared.record.Operand.the-variants.{Unused as NoOperand, Direct, Indexed, Sampler as Sampled}
 use Rattle.layout.specs.declared.record.Token.{Token}
 use Rattle.layout.proofs.SelectionLaws.{named-components, selectors1-components, components2-components}
-use Rattle.paths.specs.Check.{lacks}
+use Rattle.paths.specs.computed.Check.{lacks}
 use Rattle.layout.specs.Swizzles.{maskComponents, named}
 use Rattle.layout.specs.Selections.{selectors1, components2}
 use Rattle.components.specs.Reads.{rowsOf, readsThrough, maskOf, dimensionOf, reads1, reads2, temporaries}
-use Rattle.layout.specs.Sets.{selectorSet1}
-use Rattle.components.specs.Access.{Access, accessed, lacksAccess, lacksSome, directAccess}
-use Rattle.components.specs.Access.{accessThrough, components1Of, components2Of, access1Of, access2Of}
-use Rattle.components.specs.Written.{componentSet, lacksOf}
+use Rattle.layout.specs.computed.Sets.{selectorSet1}
+use Rattle.components.specs.computed.Access.{Access, accessed, lacksAccess, lacksSome, directAccess}
+use Rattle.components.specs.computed.Access.{accessThrough, components1Of, components2Of, access1Of, access2Of}
+use Rattle.components.specs.computed.Written.{componentSet, lacksOf}
 use Rattle.components.specs.declared.written.Written.{Written}
 use Rattle.components.proofs.Lacking.{lacks-nothing}
 use Rattle.components.proofs.Numbers.{temporaries-other-rows}

@@ -6,9 +6,9 @@ use mathlib.Core.Path.{_≡_, refl, sym, _∙_}
 use native.Mathlib.Numerals.{add-one}
 use native.Mathlib.Omega.{arith}
 use Rattle.laws.proofs.Every.{neither}
-use Rattle.paths.specs.Check.{lacks}
+use Rattle.paths.specs.computed.Check.{lacks}
 use Rattle.layout.specs.Swizzles.{maskComponents}
-use Rattle.components.specs.Written.{halfOf, componentSet, lacksRow, lacksOf}
+use Rattle.components.specs.computed.Written.{halfOf, componentSet, lacksRow, lacksOf}
 use Rattle.components.specs.declared.written.Written.{Written}
 use Rattle.components.proofs.Bits.{misses-is, misses-none}
 use Rattle.components.proofs.Numbers.{numbers, lacks-rows, lacks-keep, in-set}

@@ -9,10 +9,10 @@ use lib.Dec.{eqb}
 use lib.Pow.{shr-shr}
 use borrow.Author.Tests.{eqb-true, eqb-false, ne-eqb}
 use Rattle.paths.specs.Unwritten.{ComponentSet, has}
-use Rattle.paths.specs.Check.{lacks}
+use Rattle.paths.specs.computed.Check.{lacks}
 use Rattle.layout.specs.Swizzles.{bitOf, keep}
 use Rattle.components.specs.Reads.{Component, registerComponents, rowsOf, temporaries}
-use Rattle.components.specs.Written.{halfOf, componentSet}
+use Rattle.components.specs.computed.Written.{halfOf, componentSet}
 use Rattle.components.specs.declared.written.Written.{Written}
 use Rattle.components.proofs.Bits.{eqb-iff}
 

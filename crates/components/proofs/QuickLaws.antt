@@ -7,7 +7,7 @@ use lib.Dec.{eqb, eqb→eq}
 use Rattle.laws.proofs.Every.{neither}
 use Rattle.layout.specs.Opcodes.{tex, openers, isMatrix, isOpener, rowCount2, holds, rowOf, shapeOfRow, shapeOf}
 use Rattle.layout.specs.Records.{registerOf, directOf, isIndexed, indexedOf, samplerOf, sourceOf, operandOf, tokenOf}
-use Rattle.layout.specs.Sets.{namedSet, selectorSet1, selectorSet2, readSet2}
+use Rattle.layout.specs.computed.Sets.{namedSet, selectorSet1, selectorSet2, readSet2}
 use Rattle.layout.specs.declared.fields.Fields.{Fields}
 use Rattle.layout.specs.declared.opcodes.OperandShape.{OperandShape}
 use Rattle.layout.specs.declared.opcodes.OperandShape.the-variants.{Unused, Source, Sampler}
@@ -15,12 +15,12 @@ use Rattle.layout.specs.declared.opcodes.Shape.{Shape}
 use Rattle.layout.proofs.OpcodeLists.{each, none-of, isSampler, is-ordinary, ordinary-shape, matrix-shape, first-shape, branchShape, opener-shape}
 use Rattle.layout.proofs.OpcodeSets.{outside-matrices, one-row, by-selectors}
 use Rattle.layout.proofs.SourceKinds.{indexed-source, direct-source}
-use Rattle.paths.specs.Check.{lacks}
-use Rattle.components.specs.Access.{lacksAccess, lacksSome, indexAccess, directAccess, selectedAccess, accessThrough, access1Of, access2Of}
-use Rattle.components.specs.QuickTests.{mayLack, mayReadUnwritten, matrixMayReadUnwritten, texMayReadUnwritten, indexedMayReadUnwritten, openerMayReadUnwritten}
+use Rattle.paths.specs.computed.Check.{lacks}
+use Rattle.components.specs.computed.Access.{lacksAccess, lacksSome, indexAccess, directAccess, selectedAccess, accessThrough, access1Of, access2Of}
+use Rattle.components.specs.computed.QuickTests.{mayLack, mayReadUnwritten, matrixMayReadUnwritten, texMayReadUnwritten, indexedMayReadUnwritten, openerMayReadUnwritten}
 use Rattle.components.specs.Reads.{dimensionOf, reads1, reads2, temporaries}
 use Rattle.components.specs.ReadsWritten.{ReadsWritten, OrdinaryReads, MatrixReads, TexReads, IndexedReads, OpenerReads}
-use Rattle.components.specs.Written.{componentSet}
+use Rattle.components.specs.computed.Written.{componentSet}
 use Rattle.components.specs.declared.written.Written.{Written}
 use Rattle.components.proofs.AccessFields.{source-dimension}
 use Rattle.components.proofs.AccessLaws.{none-missing, lacks-reads1, lacks-reads2}

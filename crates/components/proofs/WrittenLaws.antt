@@ -14,7 +14,7 @@ use Rattle.layout.specs.declared.record.MaskedRegister.{MaskedRegister}
 use Rattle.paths.specs.Unwritten.{has, adds}
 use Rattle.layout.specs.Swizzles.{bitOf, maskComponents}
 use Rattle.components.specs.Reads.{registerComponents, writesInto, temporaries}
-use Rattle.components.specs.Written.{halfOf, componentSet, joinOf, markedHalf, markOf}
+use Rattle.components.specs.computed.Written.{halfOf, componentSet, joinOf, markedHalf, markOf}
 use Rattle.components.specs.declared.written.Written.{Written}
 use Rattle.layout.proofs.MaskBits.{bit-and, bit-or}
 use Rattle.components.proofs.Bits.{eqb-iff, bit-low, bit-placed}

@@ -5,9 +5,9 @@ use mathlib.Core.Path.{_≡_}
 use Rattle.layout.specs.Opcodes.{shapeOf, tex, isOrdinary, isMatrix, isOpener}
 use Rattle.layout.specs.Records.{isIndexed, tokenOf}
 use Rattle.layout.specs.declared.fields.Fields.{Fields}
-use Rattle.paths.specs.Check.{lacks}
+use Rattle.paths.specs.computed.Check.{lacks}
 use Rattle.components.specs.Reads.{reads1, reads2, temporaries}
-use Rattle.components.specs.Written.{componentSet}
+use Rattle.components.specs.computed.Written.{componentSet}
 use Rattle.components.specs.declared.written.Written.{Written}
 
 -- of all that the token reads through source 1, and through source 2, the set lacks no temporary component

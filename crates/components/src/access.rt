@@ -3,7 +3,7 @@ ghost use mathlib.Core.Path.{_≡_};
 ghost use Rattle.layout.specs.Records.{directOf, indexedOf, sourceOf, destinationOf, operandOf, tokenOf};
 ghost use Rattle.layout.specs.Opcodes.{rowCount2};
 ghost use Rattle.components.specs.Reads.{maskOf, dimensionOf};
-ghost use Rattle.components.specs.Access.{lacksAccess, lacksSome, selectedAccess, directAccess, indexAccess, accessThrough, components1Of, components2Of, access1Of, access2Of};
+ghost use Rattle.components.specs.computed.Access.{lacksAccess, lacksSome, selectedAccess, directAccess, indexAccess, accessThrough, components1Of, components2Of, access1Of, access2Of};
 use crate::written;
 use crate::written::Written;
 use layout::fields::Fields;

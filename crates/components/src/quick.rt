@@ -1,7 +1,7 @@
 // Quick tests for lawful tokens, which have none of faults 9 to 19: whether such a token may read what is not written. Each says yes of every
 // token that does. Those of matrices and indexed sources ask for all four components, and so may say yes of one that does not.
 ghost use mathlib.Core.Path.{_≡_};
-ghost use Rattle.components.specs.QuickTests.{mayReadUnwritten, matrixMayReadUnwritten, texMayReadUnwritten, mayLack, indexedMayReadUnwritten, openerMayReadUnwritten};
+ghost use Rattle.components.specs.computed.QuickTests.{mayReadUnwritten, matrixMayReadUnwritten, texMayReadUnwritten, mayLack, indexedMayReadUnwritten, openerMayReadUnwritten};
 ghost use Rattle.components.specs.ReadsWritten.{OrdinaryReads, MatrixReads, TexReads, IndexedReads, OpenerReads};
 use crate::access;
 use crate::written::Written;

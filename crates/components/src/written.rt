@@ -2,7 +2,7 @@
 ghost use mathlib.Core.Bool.{cond};
 ghost use mathlib.Core.Path.{_≡_};
 ghost use Prim.Native.Nat.{_*_, _%_, _^_};
-ghost use Rattle.components.specs.Written.{halfOf, joinOf, markOf, lacksRow, lacksOf};
+ghost use Rattle.components.specs.computed.Written.{halfOf, joinOf, markOf, lacksRow, lacksOf};
 
 // Four bits for each register, its lowest for x: registers 0 to 15 in the low half, 16 to 31 in the high one.
 pub struct Written {

@@ -8,7 +8,7 @@ use borrow.Author.Tests.{le-leb, lt-leb}
 use Rattle.registers.specs.Counts.{countOf}
 use Rattle.registers.proofs.Outside.{outside-kind}
 use Rattle.registers.proofs.Packed.{count-at}
-use Rattle.faults.specs.Profile.{profileOf, countIn}
+use Rattle.faults.specs.computed.Profile.{profileOf, countIn}
 
 pub counts-are : (edition stage : ℕ) → countIn (profileOf edition stage) ≡ (λ k. countOf k edition stage)
 unfolding countIn

@@ -13,9 +13,9 @@ use Rattle.layout.specs.declared.record.Token.{Token}
 use Rattle.paths.specs.Paths.{TokenFault}
 use Rattle.layout.specs.Opcodes.{rowCount2}
 use Rattle.faults.specs.Rules.{destinationWrong, maskWrong, indexedWrong, directWrong, samplerWrong}
-use Rattle.faults.specs.Profile.{countIn}
+use Rattle.faults.specs.computed.Profile.{countIn}
 use Rattle.faults.specs.Order.{Rule, firstFault, sourceRules}
-use Rattle.faults.specs.Faults.{numberOf, refusalAt, swizzleWrong, sourcesFault, recordFault}
+use Rattle.faults.specs.computed.Faults.{numberOf, refusalAt, swizzleWrong, sourcesFault, recordFault}
 use Rattle.faults.specs.declared.profile.Profile.{Profile}
 
 -- ---- no rule is broken

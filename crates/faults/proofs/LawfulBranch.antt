@@ -19,18 +19,18 @@ use Rattle.layout.specs.declared.opcodes.OperandShape.the-variants.{Unused, Sou
 use Rattle.layout.specs.declared.record.Destination.the-variants.{Unused as NoDestination}
 use Rattle.layout.proofs.OpcodeLists.{none-of, branchShape, branch-shape, opener-flow}
 use Rattle.layout.proofs.OpcodeSets.{one-row, outside-matrices}
-use Rattle.paths.specs.Check.{lacks}
-use Rattle.components.specs.QuickTests.{openerMayReadUnwritten}
+use Rattle.paths.specs.computed.Check.{lacks}
+use Rattle.components.specs.computed.QuickTests.{openerMayReadUnwritten}
 use Rattle.components.specs.Reads.{reads1, reads2, temporaries}
 use Rattle.components.specs.ReadsWritten.{ReadsWritten, BothDirect}
-use Rattle.components.specs.Written.{componentSet}
+use Rattle.components.specs.computed.Written.{componentSet}
 use Rattle.components.specs.declared.written.Written.{Written}
 use Rattle.components.proofs.QuickLaws.{opener-reads}
 use Rattle.faults.specs.Rules.{opcodeTooNew, opcodeNotForStage}
-use Rattle.faults.specs.Profile.{profileOf, countIn}
+use Rattle.faults.specs.computed.Profile.{profileOf, countIn}
 use Rattle.faults.specs.Order.{firstFault, sourceRules}
-use Rattle.faults.specs.Faults.{numberOf, swizzleWrong}
-use Rattle.faults.specs.LawfulTests.{isLawfulSource, isLawfulBranch}
+use Rattle.faults.specs.computed.Faults.{numberOf, swizzleWrong}
+use Rattle.faults.specs.computed.LawfulTests.{isLawfulSource, isLawfulBranch}
 use Rattle.faults.specs.declared.profile.Profile.{Profile}
 use Rattle.faults.proofs.LawfulOperands.{LawfulSource, is-direct, lawful-second}
 use Rattle.faults.proofs.LawfulToken.{NoOwnFault, no-own-fault}

@@ -13,11 +13,11 @@ use Rattle.layout.specs.Layout.{valueOf}
 use Rattle.layout.specs.Opcodes.{shapeOf, rowCount2}
 use Rattle.layout.specs.declared.fields.Fields.{Fields}
 use Rattle.layout.specs.declared.opcodes.OperandShape.the-variants.{Source}
-use Rattle.layout.specs.Sets.{amongOf, ordinarySet}
+use Rattle.layout.specs.computed.Sets.{amongOf, ordinarySet}
 use Rattle.layout.proofs.OpcodeLists.{many-rows}
-use Rattle.components.specs.QuickTests.{indexedMayReadUnwritten}
+use Rattle.components.specs.computed.QuickTests.{indexedMayReadUnwritten}
 use Rattle.components.proofs.QuickLaws.{indexed-reads}
-use Rattle.faults.specs.LawfulTests.{isSource, isLawfulDestination, isLawfulEither, isLawfulIndexed}
+use Rattle.faults.specs.computed.LawfulTests.{isSource, isLawfulDestination, isLawfulEither, isLawfulIndexed}
 use Rattle.faults.proofs.LawfulOpcodes.{LawfulOpcode, ordinary-opcode, matrix-opcode}
 use Rattle.faults.proofs.LawfulOperands.{lawful-destination, lawful-either}
 use Rattle.faults.proofs.LawfulToken.{LawfulToken, by-opcode}

@@ -13,12 +13,12 @@ use Rattle.layout.specs.Records.{tokenOf}
 use Rattle.layout.specs.declared.fields.Fields.{Fields}
 use Rattle.paths.specs.Paths.{TokenFault}
 use Rattle.registers.specs.Counts.{countOf}
-use Rattle.faults.specs.Faults.{refusalAt}
+use Rattle.faults.specs.computed.Faults.{refusalAt}
 use Rattle.faults.specs.Lawful.{Lawful, LawfulWith, LawfulUnder}
-use Rattle.faults.specs.LawfulTests.{usableOf}
+use Rattle.faults.specs.computed.LawfulTests.{usableOf}
 use Rattle.bytecode.specs.Fields.{recordOf}
 use Rattle.faults.specs.Order.{}
-use Rattle.faults.specs.Profile.{profileOf}
+use Rattle.faults.specs.computed.Profile.{profileOf}
 use Rattle.faults.specs.declared.lawful.Usable.{Usable}
 use Rattle.faults.specs.declared.profile.Profile.{Profile}
 use Rattle.faults.proofs.LawfulToken.{NoOwnFault}

@@ -9,12 +9,12 @@ use lib.Dec.{eqb, leb, leb→le}
 use borrow.Author.Tests.{eqb-true, not-true}
 use Rattle.laws.proofs.Every.{left, right, neither}
 use Rattle.layout.specs.Opcodes.{isIn, kil, tex, matrixOpcodes, isAdded, isFragmentOnly, isMatrix, isBranch, isOrdinary, shapeOf, rowCount2}
-use Rattle.layout.specs.Sets.{amongOf, ordinarySet}
+use Rattle.layout.specs.computed.Sets.{amongOf, ordinarySet}
 use Rattle.layout.specs.Swizzles.{selectorsAgree}
 use Rattle.layout.proofs.OpcodeLists.{each, none-of, FirstShape, is-ordinary, ordinary-shape, matrix-shape}
 use Rattle.layout.proofs.OpcodeSets.{in-ordinary, one-row, outside-matrices}
 use Rattle.faults.specs.Rules.{opcodeTooNew, opcodeNotForStage}
-use Rattle.faults.specs.Faults.{swizzleWrong}
+use Rattle.faults.specs.computed.Faults.{swizzleWrong}
 
 -- what is known of an ordinary opcode, and of a matrix with a source 2 that is not swizzled
 pub record LawfulOpcode (edition stage o : ℕ) : Type 0 where

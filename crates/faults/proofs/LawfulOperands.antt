@@ -19,10 +19,10 @@ use Rattle.layout.proofs.Stray.{wider, value-within}
 use Rattle.registers.specs.Counts.{countOf}
 use Rattle.registers.specs.Uses.{isReadable, isWritable}
 use Rattle.faults.specs.Rules.{destinationWrong, maskWrong, directWrong, indexedWrong}
-use Rattle.faults.specs.Profile.{profileOf, countIn}
+use Rattle.faults.specs.computed.Profile.{profileOf, countIn}
 use Rattle.faults.specs.Order.{firstFault, sourceRules}
-use Rattle.faults.specs.Faults.{numberOf}
-use Rattle.faults.specs.LawfulTests.{countAt, isSource, lawfulSourceBits, isLawfulDestination, isLawfulSource, isRightlyIndexed, isLawfulEither}
+use Rattle.faults.specs.computed.Faults.{numberOf}
+use Rattle.faults.specs.computed.LawfulTests.{countAt, isSource, lawfulSourceBits, isLawfulDestination, isLawfulSource, isRightlyIndexed, isLawfulEither}
 use Rattle.faults.specs.declared.profile.Profile.{Profile}
 use Rattle.faults.proofs.Counts.{counts-are}
 use Rattle.faults.proofs.UsableCounts.{usableIn, ifUsed, isIndex, readable-counts, writable-counts, indexing-counts}

@@ -18,18 +18,18 @@ use Rattle.layout.specs.declared.opcodes.OperandShape.{OperandShape}
 use Rattle.layout.specs.declared.opcodes.OperandShape.the-variants.{Source, Sampler}
 use Rattle.layout.specs.declared.record.Destination.the-variants.{Masked}
 use Rattle.layout.specs.declared.record.Token.{Token}
-use Rattle.layout.specs.Sets.{amongOf, ordinarySet}
-use Rattle.components.specs.QuickTests.{mayReadUnwritten, matrixMayReadUnwritten, texMayReadUnwritten}
+use Rattle.layout.specs.computed.Sets.{amongOf, ordinarySet}
+use Rattle.components.specs.computed.QuickTests.{mayReadUnwritten, matrixMayReadUnwritten, texMayReadUnwritten}
 use Rattle.components.specs.ReadsWritten.{ReadsWritten}
 use Rattle.components.specs.declared.written.Written.{Written}
 use Rattle.components.proofs.QuickLaws.{ordinary-reads, matrix-reads, tex-reads}
 use Rattle.layout.proofs.OpcodeLists.{is-ordinary, matrix-shape, many-rows}
 use Rattle.layout.proofs.OpcodeSets.{one-row, outside-matrices}
 use Rattle.faults.specs.Rules.{opcodeTooNew, destinationWrong, maskWrong, opcodeNotForStage, samplerWrong}
-use Rattle.faults.specs.Profile.{profileOf, countIn}
+use Rattle.faults.specs.computed.Profile.{profileOf, countIn}
 use Rattle.faults.specs.Order.{firstFault, sourceRules}
-use Rattle.faults.specs.Faults.{numberOf, swizzleWrong, ownFault}
-use Rattle.faults.specs.LawfulTests.{isSource, isLawfulDestination, isLawfulSource, isLawful, isLawfulMatrix, isLawfulTex}
+use Rattle.faults.specs.computed.Faults.{numberOf, swizzleWrong, ownFault}
+use Rattle.faults.specs.computed.LawfulTests.{isSource, isLawfulDestination, isLawfulSource, isLawful, isLawfulMatrix, isLawfulTex}
 use Rattle.faults.specs.declared.profile.Profile.{Profile}
 use Rattle.faults.proofs.LawfulOpcodes.{LawfulOpcode, known-ordinary, ordinary-opcode, matrix-opcode}
 use Rattle.faults.proofs.LawfulOperands.{LawfulDestination, LawfulSource, is-direct, lawful-destination, lawful-direct, lawful-second}

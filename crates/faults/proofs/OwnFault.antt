@@ -21,9 +21,9 @@ use Rattle.bytecode.proofs.DecodeLaws.{accepted, none-broken, was-refused}
 use Rattle.registers.specs.Counts.{countOf}
 use Rattle.paths.specs.Paths.{TokenFault}
 use Rattle.faults.specs.Rules.{opcodeTooNew, opcodeNotForStage, selectorsDiffer, matrixSwizzled}
-use Rattle.faults.specs.Profile.{profileOf, countIn}
+use Rattle.faults.specs.computed.Profile.{profileOf, countIn}
 use Rattle.faults.specs.Order.{Rule, firstFault, sourceRules, recordRules, tokenRules}
-use Rattle.faults.specs.Faults.{refusalAt, recordFault, ownFault, undecodedFault}
+use Rattle.faults.specs.computed.Faults.{refusalAt, recordFault, ownFault, undecodedFault}
 use Rattle.faults.proofs.Counts.{counts-are}
 
 -- ---- numbers 9 to 19

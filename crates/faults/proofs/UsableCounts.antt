@@ -9,13 +9,13 @@ use native.Mathlib.Omega.{arith}
 use lib.Dec.{T, eqb, ltb, eqb→eq}
 use Rattle.laws.specs.Tests.{every}
 use Rattle.laws.proofs.Every.{below}
-use Rattle.layout.specs.Sets.{ordinarySet}
+use Rattle.layout.specs.computed.Sets.{ordinarySet}
 use Rattle.registers.specs.Counts.{countOf}
 use Rattle.registers.specs.Uses.{isReadable, isWritable}
 use Rattle.registers.proofs.Outside.{outside-edition, outside-stage}
 use Rattle.registers.proofs.Packed.{none-packed}
-use Rattle.faults.specs.Profile.{profileOf}
-use Rattle.faults.specs.LawfulTests.{usable, usableOf, countAt}
+use Rattle.faults.specs.computed.Profile.{profileOf}
+use Rattle.faults.specs.computed.LawfulTests.{usable, usableOf, countAt}
 use Rattle.faults.specs.declared.lawful.Usable.{Usable}
 use Rattle.faults.specs.declared.profile.Profile.{Profile}
 

@@ -8,8 +8,8 @@ use Rattle.bytecode.specs.Fields.{fieldsOf}
 use Rattle.layout.specs.declared.fields.Fields.{Fields}
 use Rattle.registers.specs.Counts.{countOf}
 use Rattle.faults.specs.Order.{firstFault, tokenRules}
-use Rattle.faults.specs.LawfulTests.{usableOf}
-use Rattle.faults.specs.Profile.{profileOf}
+use Rattle.faults.specs.computed.LawfulTests.{usableOf}
+use Rattle.faults.specs.computed.Profile.{profileOf}
 use Rattle.faults.specs.declared.lawful.Usable.{Usable}
 use Rattle.faults.specs.declared.profile.Profile.{Profile}
 

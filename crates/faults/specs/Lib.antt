@@ -1,7 +1,4 @@
-pub mod Faults
-pub mod Header
-pub mod Order
 pub mod Lawful
-pub mod LawfulTests
-pub mod Profile
+pub mod Order
 pub mod Rules
+pub mod computed

@@ -4,8 +4,8 @@ ghost use Prim.Native.Nat.{_≤_};
 ghost use lib.ListN.{length};
 ghost use Rattle.layout.specs.Layout.{wordAt};
 ghost use Rattle.faults.specs.Rules.{editionUnknown};
-ghost use Rattle.faults.specs.Header.{headerFault};
-ghost use Rattle.faults.specs.Header.{restFault};
+ghost use Rattle.faults.specs.computed.Header.{headerFault};
+ghost use Rattle.faults.specs.computed.Header.{restFault};
 use bytecode::answers::Refusal;
 
 pub fn header_fault(edition: u32, bytes: &[u8]) -> Refusal

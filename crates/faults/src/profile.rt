@@ -1,6 +1,6 @@
 // What an edition gives the programs of a stage, looked up once for each program.
 ghost use mathlib.Core.Path.{_≡_};
-ghost use Rattle.faults.specs.Profile.{profileOf, countIn};
+ghost use Rattle.faults.specs.computed.Profile.{profileOf, countIn};
 
 // Register counts stand by kind, eight bits each, so that one shift finds a count.
 pub struct Profile {

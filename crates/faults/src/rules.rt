@@ -1,7 +1,7 @@
 // Rules 10, 11 and 14 to 19 of one token.
 ghost use mathlib.Core.Path.{_≡_};
 ghost use Rattle.layout.specs.Records.{destinationOf};
-ghost use Rattle.faults.specs.Profile.{countIn};
+ghost use Rattle.faults.specs.computed.Profile.{countIn};
 ghost use Rattle.faults.specs.Rules.{opcodeTooNew, opcodeNotForStage, destinationWrong, maskWrong, indexedWrong, directWrong, selectorsDiffer, matrixSwizzled, samplerWrong};
 use crate::profile;
 use crate::profile::Profile;

@@ -13,7 +13,7 @@ use Rattle.laws.specs.Tests.{every}
 use Rattle.laws.proofs.Every.{below, both-left, both-right, neither, same→eq}
 use Rattle.layout.specs.Opcodes.{isIn, kil, tex, m33, m44, m34, ife, eif, firstOpcodes, addedOpcodes, openers, bareOpcodes, isAdded, isMatrix, isBranch, isOrdinary, isOrdinaryIn, rowCount2, unlisted, shapeOfRow, shapeOf, sourceShape, secondShape}
 use Rattle.layout.specs.Selections.{byThree1, byFour1}
-use Rattle.layout.specs.Sets.{amongOf, setBelow, ordinarySet, coordinateSet, namedSet, selectorSet1, selectorSet2, readSet2}
+use Rattle.layout.specs.computed.Sets.{amongOf, setBelow, ordinarySet, coordinateSet, namedSet, selectorSet1, selectorSet2, readSet2}
 use Rattle.layout.specs.Swizzles.{bitOf}
 use Rattle.layout.specs.declared.opcodes.OperandShape.{OperandShape}
 use Rattle.layout.specs.declared.opcodes.OperandShape.the-variants.{Unused, Source, Sampler}

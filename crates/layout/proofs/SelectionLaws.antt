@@ -13,7 +13,7 @@ use Rattle.laws.proofs.Every.{below, same→eq}
 use Rattle.layout.specs.Opcodes.{isIn, m33, m44, m34, kil, tex}
 use Rattle.layout.specs.Swizzles.{keep, those, firstFew, bitOf, maskComponents, selector, named, selectorsAgree, componentsOf}
 use Rattle.layout.specs.Selections.{byThree1, byThree2, byFour1, byFour2, selectors1, selectors2, components2}
-use Rattle.layout.specs.Sets.{chosenSet, namedSet, selectorSet1, selectorSet2, readSet2}
+use Rattle.layout.specs.computed.Sets.{chosenSet, namedSet, selectorSet1, selectorSet2, readSet2}
 use Rattle.layout.proofs.MaskBits.{bit-or}
 
 -- ---- the components that a swizzle names

@@ -4,5 +4,5 @@ pub mod Programs
 pub mod Records
 pub mod Samplers
 pub mod Selections
-pub mod Sets
 pub mod Swizzles
+pub mod computed

@@ -2,7 +2,7 @@
 // components is four bits: bit 0 is the first selector, or x.
 ghost use mathlib.Core.Path.{_≡_};
 ghost use Rattle.layout.specs.Opcodes.{rowCount2};
-ghost use Rattle.layout.specs.Sets.{chosenSet, namedSet, coordinateSet, selectorSet1, selectorSet2, readSet2};
+ghost use Rattle.layout.specs.computed.Sets.{chosenSet, namedSet, coordinateSet, selectorSet1, selectorSet2, readSet2};
 use crate::opcodes;
 use crate::swizzles;
 

@@ -12,7 +12,7 @@ use Rattle.laws.specs.Tests.{every}
 use Rattle.laws.proofs.Every.{both-left, both-right, below}
 use Rattle.listing.specs.Text.{ascii, when}
 use Rattle.listing.specs.Names.{opcodeName, registerName}
-use Rattle.listing.specs.Writers.{nameRow}
+use Rattle.listing.specs.computed.Writers.{nameRow}
 use Rattle.listing.proofs.Bytes.{equal, equal→eq}
 
 pub short : (n : ℕ) (l : List ℕ) → length (take n l) ≤ n

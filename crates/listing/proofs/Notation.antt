@@ -10,7 +10,7 @@ use lib.IntN.{ℤ}
 use lib.Pow.{pow-add}
 use borrow.Author.Tests.{lt-ltb, le-ltb, le-leb, lt-leb}
 use Rattle.listing.specs.Decimal.{digit, AreDigits, saidAfter, NoLeadingZero, IsDecimal, notation, decimal, isNegative, magnitude, signedDecimal}
-use Rattle.listing.specs.Writers.{digitAt}
+use Rattle.listing.specs.computed.Writers.{digitAt}
 use Rattle.listing.specs.Text.{ascii, when}
 
 -- ---- the last digit and the rest

@@ -22,7 +22,7 @@ use Rattle.layout.specs.declared.record.Operand.the-variants.{Unused as NoOpera
 use Rattle.layout.specs.declared.record.Token.{Token}
 use Rattle.listing.proofs.Bytes.{both}
 use Rattle.listing.specs.Line.{hasName, destinationHasNames, operandHasNames, isNameable}
-use Rattle.listing.specs.Writers.{operandRoom, Nameable}
+use Rattle.listing.specs.computed.Writers.{operandRoom, Nameable}
 
 pub masked-kind : {d : Destination} {r : MaskedRegister} → d ≡ Masked r → destinationHasNames d ≡ true → r .kind ≤ 6
 masked-kind {r = r} e h = leb-true (r .kind) 6 (sym (ap destinationHasNames e) ∙ h)

@@ -12,7 +12,7 @@ use borrow.Author.Tests.{lt-ltb, le-ltb}
 use Rattle.bytecode.specs.Decode.{refusal}
 use Rattle.bytecode.specs.declared.answers.Refusal.{Refusal}
 use Rattle.listing.specs.Printing.{printFault, printAnswer, afterPrint, Prints}
-use Rattle.listing.specs.Writers.{Appends}
+use Rattle.listing.specs.computed.Writers.{Appends}
 use Rattle.listing.specs.declared.answers.Printed.{Printed}
 use Rattle.listing.specs.declared.answers.Printed.the-variants.{Length, Refused}
 

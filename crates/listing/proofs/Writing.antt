@@ -8,7 +8,7 @@ use native.Mathlib.Numerals.{add-one}
 use native.Mathlib.Omega.{arith}
 use lib.ListN.{length, take, drop, set, getD, replicate, take-append-drop}
 use lib.Seq.{paste, paste-suc, take-suc-set, take-paste, drop-paste, take-length, length-take-le, drop-drop, drop-set-lt, take-append-add, take-append-le, drop-append-add, drop-append-le}
-use Rattle.listing.specs.Writers.{Appends}
+use Rattle.listing.specs.computed.Writers.{Appends}
 
 -- one byte more
 pub one : (l : List ℕ) (at b : ℕ) → at + 1 ≤ length l → Appends (b ∷ []) 1 at l (set l at b) (at + 1)

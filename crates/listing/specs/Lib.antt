@@ -5,4 +5,4 @@ pub mod Line
 pub mod Names
 pub mod Printing
 pub mod Text
-pub mod Writers
+pub mod computed

@@ -3,7 +3,7 @@ ghost use mathlib.Core.Path.{_≡_};
 ghost use Prim.Native.Nat.{_+_, _^_, _≤_, _<_};
 ghost use lib.ListN.{length};
 ghost use Rattle.listing.specs.Decimal.{decimal, signedDecimal, isNegative, magnitude as magnitudeOf};
-ghost use Rattle.listing.specs.Writers.{Appends};
+ghost use Rattle.listing.specs.computed.Writers.{Appends};
 use crate::text;
 
 // A number of 0 to 65535, which has at most five digits: that of each unit in turn, from the largest unit that the number reaches.

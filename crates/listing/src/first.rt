@@ -5,7 +5,7 @@ ghost use lib.ListN.{length};
 ghost use Rattle.listing.specs.Decimal.{decimal};
 ghost use Rattle.listing.specs.First.{headingLine, refusalLine, firstLine, firstMost};
 ghost use Rattle.listing.specs.Printing.{Prints};
-ghost use Rattle.listing.specs.Writers.{Appends};
+ghost use Rattle.listing.specs.computed.Writers.{Appends};
 use crate::answers::Printed;
 use crate::decimal;
 use crate::printing;

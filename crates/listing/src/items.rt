@@ -3,7 +3,7 @@ ghost use mathlib.Core.Path.{_≡_};
 ghost use mathlib.Core.List.{[], _∷_};
 ghost use Prim.Native.Nat.{_+_, _≤_};
 ghost use lib.ListN.{length};
-ghost use Rattle.listing.specs.Writers.{Appends};
+ghost use Rattle.listing.specs.computed.Writers.{Appends};
 ghost use Rattle.listing.specs.Items.{indentation, registerText, componentLetter, maskText, swizzleText};
 use crate::decimal;
 use crate::names;

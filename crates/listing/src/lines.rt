@@ -2,7 +2,7 @@
 ghost use Prim.Native.Nat.{_≤_};
 ghost use lib.ListN.{length};
 ghost use Rattle.listing.specs.Line.{lineOf, Lists};
-ghost use Rattle.listing.specs.Writers.{Appends, Nameable};
+ghost use Rattle.listing.specs.computed.Writers.{Appends, Nameable};
 use crate::answers::Printed;
 use crate::items;
 use crate::nameable;

@@ -5,7 +5,7 @@ ghost use Prim.Native.Nat.{_+_, _≤_};
 ghost use lib.ListN.{length};
 ghost use Rattle.layout.specs.Opcodes.{isListed};
 ghost use Rattle.listing.specs.Names.{opcodeName, registerName};
-ghost use Rattle.listing.specs.Writers.{Appends, nameRow};
+ghost use Rattle.listing.specs.computed.Writers.{Appends, nameRow};
 use crate::text;
 
 // By opcode, three letters each, from mov, 00, to sne, 2d; dots where no opcode is listed.

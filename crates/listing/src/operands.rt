@@ -4,7 +4,7 @@ ghost use mathlib.Core.Path.{_≡_};
 ghost use Prim.Native.Nat.{_+_, _≤_};
 ghost use lib.ListN.{length};
 ghost use Rattle.listing.specs.Items.{maskedText, directText, indexText, indexedText, samplerText, destinationText, operandText};
-ghost use Rattle.listing.specs.Writers.{Appends, operandRoom};
+ghost use Rattle.listing.specs.computed.Writers.{Appends, operandRoom};
 ghost use Rattle.listing.specs.Line.{destinationHasNames, operandHasNames};
 use crate::decimal;
 use crate::items;

@@ -1,7 +1,7 @@
 // The settings of a sampler.
 ghost use Prim.Native.Nat.{_+_, _≤_};
 ghost use lib.ListN.{length};
-ghost use Rattle.listing.specs.Writers.{Appends};
+ghost use Rattle.listing.specs.computed.Writers.{Appends};
 ghost use Rattle.listing.specs.Names.{mipmapName};
 ghost use Rattle.listing.specs.Items.{settingsText, textureText, samplingText, biasText};
 use crate::decimal;

@@ -13,7 +13,7 @@ use Rattle.paths.specs.Paths.{Path, arrive, visitOf, visitAt}
 use Rattle.paths.specs.Unwritten.{ComponentSet}
 use Rattle.paths.specs.Nesting.{Branch, branchesAfter, openBranchesFrom, misplaced}
 use Rattle.paths.specs.Faults.{Answer, refused, NoFault, FaultIs}
-use Rattle.paths.specs.Check.{keptAt, keptAfter, setBefore, lacks, judge, ending, checkFrom}
+use Rattle.paths.specs.computed.Check.{keptAt, keptAfter, setBefore, lacks, judge, ending, checkFrom}
 use Rattle.paths.proofs.Threaded.{Lacks, ReadsFrom}
 use Rattle.paths.proofs.Levels.{Levels, Ready, levels-start, levels-at, levels-step}
 use Rattle.paths.proofs.Middle.{Middle, begin, past, numberFrom, SomeReads, CleanFrom, FaultFrom}

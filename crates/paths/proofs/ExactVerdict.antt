@@ -13,7 +13,7 @@ use Rattle.paths.specs.Paths.{Source, source1, source2, TokenFault, Path
 use Rattle.paths.specs.Unwritten.{SomePathReads}
 use Rattle.paths.specs.Nesting.{Branch, openBranches, innermost, misplacedFrom, misplacedAt}
 use Rattle.paths.specs.Faults.{accepted, refused, NoFault, FaultIs, tokenFaultAt, CleanBefore, FaultAt, FirstFault, Faultless}
-use Rattle.paths.specs.Check.{ending, verdictOf}
+use Rattle.paths.specs.computed.Check.{ending, verdictOf}
 use Rattle.paths.specs.Demand.{ExactOverTokens}
 use Rattle.paths.proofs.Middle.{begin, number-begin, clean-begin, fault-begin}
 use Rattle.paths.proofs.Classified.{Refuses, Ends, classified, good-begin}

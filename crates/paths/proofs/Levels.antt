@@ -11,7 +11,7 @@ use lib.ListN.{length}
 use Rattle.laws.proofs.Every.{is-true, neither, both-false}
 use Rattle.paths.specs.Paths.{Flow, plain, opener, els, eif, Path, arrive, leave}
 use Rattle.paths.specs.Unwritten.{ComponentSet, nothing, has, adds}
-use Rattle.paths.specs.Check.{currentAt, keptAt, keptAfter}
+use Rattle.paths.specs.computed.Check.{currentAt, keptAt, keptAfter}
 
 -- ---- booleans that are false
 

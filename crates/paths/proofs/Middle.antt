@@ -14,7 +14,7 @@ use Rattle.paths.specs.Paths.{Path, arrive, leave, Visit, visitOf, visit
 use Rattle.paths.specs.Unwritten.{ComponentSet, nothing, SomePathReads}
 use Rattle.paths.specs.Nesting.{misplacedFrom}
 use Rattle.paths.specs.Faults.{NoFault, FaultIs, tokenFaultAt, Clean, FaultAt}
-use Rattle.paths.specs.Check.{State, nextState, start}
+use Rattle.paths.specs.computed.Check.{State, nextState, start}
 use Rattle.paths.proofs.Levels.{writtenAt}
 use Rattle.paths.proofs.Threaded.{ReadsFrom, threaded-is-sentence}
 

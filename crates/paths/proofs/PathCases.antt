@@ -10,7 +10,7 @@ use Rattle.paths.specs.Paths.{Flow, plain, opener, els, eif, Source, sou
 use Rattle.paths.specs.Unwritten.{has}
 use Rattle.paths.specs.Nesting.{eifOf, Closes}
 use Rattle.paths.specs.Faults.{Answer, accepted, refused}
-use Rattle.paths.specs.Check.{verdictOf, checkFrom}
+use Rattle.paths.specs.computed.Check.{verdictOf, checkFrom}
 use Rattle.paths.proofs.Threaded.{has-member}
 
 abbrev through : List ℕ → List ℕ → Source → List ℕ

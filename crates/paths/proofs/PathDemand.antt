@@ -9,7 +9,7 @@ use lib.ListN.{length}
 use Rattle.paths.specs.Paths.{Source, PathToken, Path, visited}
 use Rattle.paths.specs.Unwritten.{ReadsUnwritten}
 use Rattle.paths.specs.Faults.{Answer, CleanBefore, FirstFault, FirstUnwritten, TokenFaultsNumbered}
-use Rattle.paths.specs.Check.{verdictOf}
+use Rattle.paths.specs.computed.Check.{verdictOf}
 use Rattle.paths.specs.Demand.{ExactOverTokens, Demand3OverTokens}
 use Rattle.paths.proofs.Cuts.{unwritten-cut}
 use Rattle.paths.proofs.Closing.{closes}

@@ -10,7 +10,7 @@ use Rattle.bytecode.specs.Decode.{unusedPart, undefinedPart}
 use Rattle.registers.specs.Counts.{countOf}
 use Rattle.registers.specs.Limits.{limitOf}
 use Rattle.layout.specs.Selections.{selectors1, selectors2, components2}
-use Rattle.paths.specs.Check.{checkFrom}
+use Rattle.paths.specs.computed.Check.{checkFrom}
 use Rattle.listing.specs.Text.{ascii}
 use Rattle.listing.specs.Decimal.{decimal}
 use Rattle.listing.specs.Names.{opcodeName, registerName}

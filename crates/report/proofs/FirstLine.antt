@@ -15,7 +15,7 @@ use Rattle.listing.specs.declared.first.Heading.{Heading}
 use Rattle.listing.proofs.FirstMost.{first-most}
 use Rattle.listing.proofs.first.FirstLine.{the-type}
 use Rattle.layout.specs.Programs.{tokenCount}
-use Rattle.report.specs.Writers.{allLines, Listed, linesAfter, HasLines, BeginsText, HasRoom, Puts, Measured}
+use Rattle.report.specs.computed.Writers.{allLines, Listed, linesAfter, HasLines, BeginsText, HasRoom, Puts, Measured}
 use Rattle.report.proofs.Room.{front, behind, in-turn, add-lengths}
 
 -- the program's bytes, as the code cuts them out after the digit

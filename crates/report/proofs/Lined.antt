@@ -16,7 +16,7 @@ use Rattle.listing.specs.declared.answers.Printed.the-variants.{Length, Refused
 use Rattle.listing.proofs.LineLaws.{as-text}
 use Rattle.listing.proofs.PrintLaws.{appended, not-refused}
 use Rattle.listing.proofs.Writing.{in-part}
-use Rattle.report.specs.Writers.{HasRoom, Puts}
+use Rattle.report.specs.computed.Writers.{HasRoom, Puts}
 use Rattle.report.proofs.Room.{room-for, exactly}
 
 module _ (t : Token) (stage depth : ℕ) (named : isNameable t stage depth ≡ true) (l : List ℕ) (at : ℕ)

@@ -10,11 +10,11 @@ use lib.ListN.{length, take, length-append}
 use lib.Seq.{length-take-le}
 use borrow.Author.Tests.{leb-true, leb-false}
 use Rattle.listing.specs.Printing.{Prints}
-use Rattle.listing.specs.Writers.{Appends}
+use Rattle.listing.specs.computed.Writers.{Appends}
 use Rattle.listing.specs.declared.answers.Printed.the-variants.{Length}
 use Rattle.listing.proofs.PrintLaws.{printed}
 use Rattle.listing.proofs.Writing.{_then_, within}
-use Rattle.report.specs.Writers.{HasRoom, forAny, forThis, Puts, Measured, Fits}
+use Rattle.report.specs.computed.Writers.{HasRoom, forAny, forThis, Puts, Measured, Fits}
 
 -- ---- room
 

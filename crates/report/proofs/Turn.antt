@@ -17,12 +17,12 @@ use Rattle.bytecode.specs.declared.answers.Decoded.the-variants.{Token as Accep
 use Rattle.layout.specs.declared.record.Token.{Token}
 use Rattle.laws.proofs.Every.{left, right}
 use Rattle.listing.specs.Line.{lineOf, isNameable, destinationHasNames, operandHasNames}
-use Rattle.listing.specs.Writers.{Appends}
+use Rattle.listing.specs.computed.Writers.{Appends}
 use Rattle.layout.specs.Programs.{tokenCount, tokenAt}
 use Rattle.bytecode.specs.Fields.{recordOf}
 use Rattle.report.specs.Depth.{shownDepth, openedAfter}
 use Rattle.report.specs.Lines.{flowIn, linesFrom, Listable}
-use Rattle.report.specs.Writers.{allLines, HasRoom, forAny, forThis}
+use Rattle.report.specs.computed.Writers.{allLines, HasRoom, forAny, forThis}
 
 -- a record that has a line stands no deeper than 16
 depth-most : (t : Token) (stage depth : ℕ) → isNameable t stage depth ≡ true → depth ≤ 16

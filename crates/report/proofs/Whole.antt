@@ -23,7 +23,7 @@ use Rattle.verifier.specs.declared.answers.Checked.the-variants.{Accepted, Refu
 use Rattle.report.specs.Lines.{linesFrom, Listable}
 use Rattle.report.specs.Text.{answerText, isEdition, editionOf, textOf}
 use Rattle.report.specs.Report.{Reports}
-use Rattle.report.specs.Writers.{linesAfter, HasLines, BeginsText}
+use Rattle.report.specs.computed.Writers.{linesAfter, HasLines, BeginsText}
 use Rattle.report.proofs.Accepted.{lists}
 use Rattle.report.proofs.FirstLine.{after-digit}
 

@@ -2,4 +2,4 @@ pub mod Depth
 pub mod Lines
 pub mod Report
 pub mod Text
-pub mod Writers
+pub mod computed

@@ -4,7 +4,7 @@ ghost use Prim.Native.Nat.{_≤_};
 ghost use lib.ListN.{length, drop};
 ghost use Rattle.verifier.specs.Verdict.{verdict};
 ghost use Rattle.report.specs.Text.{answerText, isEdition as isEditionDigit, editionOf, textOf};
-ghost use Rattle.report.specs.Writers.{BeginsText};
+ghost use Rattle.report.specs.computed.Writers.{BeginsText};
 use listing::first::FirstLine;
 use listing::first::Heading;
 use verifier::answers::Checked;

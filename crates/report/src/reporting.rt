@@ -3,7 +3,7 @@ ghost use lib.ListN.{length, drop};
 ghost use Rattle.listing.specs.First.{firstLine, firstMost};
 ghost use Rattle.report.specs.Text.{textOf};
 ghost use Rattle.report.specs.Report.{Reports};
-ghost use Rattle.report.specs.Writers.{BeginsText, HasRoom, Measured, Fits, Puts};
+ghost use Rattle.report.specs.computed.Writers.{BeginsText, HasRoom, Measured, Fits, Puts};
 use crate::opening;
 use crate::tokens;
 use listing::answers::Printed;

@@ -10,7 +10,7 @@ ghost use Rattle.listing.specs.Line.{lineOf, isNameable};
 ghost use Rattle.layout.specs.Programs.{tokenCount, tokenAt};
 ghost use Rattle.bytecode.specs.Fields.{recordOf};
 ghost use Rattle.report.specs.Depth.{shownDepth, openedAfter};
-ghost use Rattle.report.specs.Writers.{Listed, HasRoom, Puts, Measured, allLines};
+ghost use Rattle.report.specs.computed.Writers.{Listed, HasRoom, Puts, Measured, allLines};
 use bytecode::answers::Decoded;
 use layout::opcodes;
 use layout::opcodes::Flow;

@@ -15,9 +15,9 @@ use Rattle.paths.specs.Nesting as nesting
 use Rattle.paths.specs.Nesting.{misplaced}
 use Rattle.paths.specs.Unwritten.{ComponentSet}
 use Rattle.components.specs.Tokens.{pathFlow}
-use Rattle.components.specs.Written.{componentSet}
-use Rattle.paths.specs.Check as check
-use Rattle.verifier.specs.State.{startState, branchAt, isMisplaced}
+use Rattle.components.specs.computed.Written.{componentSet}
+use Rattle.paths.specs.computed.Check as check
+use Rattle.verifier.specs.computed.State.{startState, branchAt, isMisplaced}
 use Rattle.verifier.specs.declared.state.Branch.{Branch}
 use Rattle.verifier.specs.declared.state.State.{State}
 

@@ -8,7 +8,7 @@ use Rattle.bytecode.specs.Decode.{unusedPart, undefinedPart}
 use Rattle.registers.specs.Counts.{countOf}
 use Rattle.registers.specs.Limits.{limitOf}
 use Rattle.layout.specs.Selections.{selectors1, selectors2, components2}
-use Rattle.paths.specs.Check.{checkFrom}
+use Rattle.paths.specs.computed.Check.{checkFrom}
 use Rattle.verifier.specs.Verdict.{verdict}
 use Rattle.verifier.specs.declared.answers.Checked.{Checked}
 use Rattle.verifier.specs.BenchCases.{Case, benchCases, BenchChecks}

@@ -13,7 +13,7 @@ use Rattle.bytecode.specs.declared.answers.Refusal.{Refusal}
 use Rattle.registers.specs.Counts.{countOf}
 use Rattle.paths.specs.Paths.{TokenFault, PathToken}
 use Rattle.paths.specs.Faults.{Answer, accepted, refused, FirstFault, Faultless, TokenFaultsNumbered}
-use Rattle.paths.specs.Check.{verdictOf}
+use Rattle.paths.specs.computed.Check.{verdictOf}
 use Rattle.paths.proofs.ExactVerdict.{exact}
 use Rattle.paths.proofs.PathDemand.{demand3}
 use Rattle.layout.specs.Programs.{stageOf, tokenCount, tokenAt}

@@ -16,22 +16,22 @@ use Rattle.layout.specs.declared.opcodes.Flow.the-variants.{Plain, Opener, Els,
 use Rattle.layout.specs.declared.record.Token.{Token}
 use Rattle.layout.specs.Programs.{tokenAt}
 use Rattle.layout.proofs.OpcodeLists.{plain-flow}
-use Rattle.components.specs.Access.{lacksAccess, access1Of, access2Of}
-use Rattle.components.specs.QuickTests.{openerMayReadUnwritten}
+use Rattle.components.specs.computed.Access.{lacksAccess, access1Of, access2Of}
+use Rattle.components.specs.computed.QuickTests.{openerMayReadUnwritten}
 use Rattle.components.specs.ReadsWritten.{ReadsWritten}
 use Rattle.components.specs.declared.written.Written.{Written}
 use Rattle.components.proofs.AccessLaws.{lacks-reads1, lacks-reads2}
-use Rattle.faults.specs.Faults.{ownFault}
-use Rattle.faults.specs.LawfulTests.{usableOf, isLawfulBranch}
-use Rattle.faults.specs.Profile.{profileOf}
+use Rattle.faults.specs.computed.Faults.{ownFault}
+use Rattle.faults.specs.computed.LawfulTests.{usableOf, isLawfulBranch}
+use Rattle.faults.specs.computed.Profile.{profileOf}
 use Rattle.faults.specs.declared.lawful.Usable.{Usable}
 use Rattle.faults.specs.declared.profile.Profile.{Profile}
 use Rattle.faults.proofs.LawfulBranch.{LawfulBranch, lawful-branch}
 use Rattle.faults.proofs.LawfulToken.{LawfulToken}
-use Rattle.verifier.specs.Glance.{passedUnless, Whenever, Passes, opensUnwritten, branchStep, KnownBranch}
-use Rattle.verifier.specs.State.{isOutOfPlace, isMisplaced, metState, partedState, withCurrent, writtenBy, wroteState}
-use Rattle.verifier.specs.Step.{faultOfFields, followOf, stepOf}
-use Rattle.verifier.specs.Steps.{stepsOver}
+use Rattle.verifier.specs.computed.Glance.{passedUnless, Whenever, Passes, opensUnwritten, branchStep, KnownBranch}
+use Rattle.verifier.specs.computed.State.{isOutOfPlace, isMisplaced, metState, partedState, withCurrent, writtenBy, wroteState}
+use Rattle.verifier.specs.computed.Step.{faultOfFields, followOf, stepOf}
+use Rattle.verifier.specs.computed.Steps.{stepsOver}
 use Rattle.verifier.specs.declared.glance.Passed.{Passed}
 use Rattle.verifier.specs.declared.state.Branch.{Branch}
 use Rattle.verifier.specs.declared.state.State.{State}

@@ -12,12 +12,12 @@ use lib.ListN.{length}
 use borrow.Author.Tests.{lt-ltb, ltb-false}
 use Rattle.layout.specs.Programs.{tokenCount}
 use Rattle.paths.specs.Paths.{TokenFault}
-use Rattle.paths.specs.Check.{verdictOf}
+use Rattle.paths.specs.computed.Check.{verdictOf}
 use Rattle.registers.specs.Limits.{limitOf}
 use Rattle.faults.specs.Rules.{editionUnknown}
 use Rattle.faults.specs.Order.{Rule, firstFault, headerRules, tokensOf}
-use Rattle.faults.specs.Faults.{refusalAt}
-use Rattle.faults.specs.Header.{headerFault}
+use Rattle.faults.specs.computed.Faults.{refusalAt}
+use Rattle.faults.specs.computed.Header.{headerFault}
 use Rattle.faults.proofs.FaultLaws.{none-broken}
 use Rattle.verifier.specs.Verdict.{answerOf, afterHeader, verdict}
 use Rattle.verifier.specs.declared.answers.Checked.{Checked}

@@ -19,12 +19,12 @@ use Rattle.paths.specs.Nesting.{branchesAfter}
 use Rattle.paths.specs.Unwritten.{ComponentSet, adds}
 use Rattle.components.specs.Reads.{writesInto, temporaries}
 use Rattle.components.specs.Tokens.{pathFlow}
-use Rattle.components.specs.Written.{componentSet}
-use Rattle.paths.specs.Check as check
-use Rattle.paths.specs.Check.{currentAt, keptAt, keptAfter}
+use Rattle.components.specs.computed.Written.{componentSet}
+use Rattle.paths.specs.computed.Check as check
+use Rattle.paths.specs.computed.Check.{currentAt, keptAt, keptAfter}
 use Rattle.components.specs.declared.written.Written.{Written}
 use Rattle.components.proofs.WrittenLaws.{in-join, in-written}
-use Rattle.verifier.specs.State.{branch, branchAt, slotOf, slotAround, isMisplaced, withCurrent, metState, openedState, joinedState, partedState, writtenBy, wroteState}
+use Rattle.verifier.specs.computed.State.{branch, branchAt, slotOf, slotAround, isMisplaced, withCurrent, metState, openedState, joinedState, partedState, writtenBy, wroteState}
 use Rattle.verifier.specs.declared.state.Branch.{Branch}
 use Rattle.verifier.specs.declared.state.State.{State}
 use Rattle.verifier.proofs.Abstract.{branchOf, keptOf, below, openIn, below-alike, keptIn, abstractOf, Valid, none-open, some-open}

@@ -27,14 +27,14 @@ use Rattle.paths.specs.Nesting.{misplaced}
 use Rattle.paths.specs.Faults.{Answer, refused}
 use Rattle.components.specs.Reads.{reads1, reads2, writesInto, temporaries}
 use Rattle.components.specs.Tokens.{pathFlow, pathTokenOf}
-use Rattle.components.specs.Access.{lacksAccess, access1Of, access2Of}
+use Rattle.components.specs.computed.Access.{lacksAccess, access1Of, access2Of}
 use Rattle.paths.specs.Unwritten.{adds}
-use Rattle.components.specs.Written.{componentSet}
-use Rattle.paths.specs.Check.{judge, lacks, setBefore, nextState, checkFrom}
+use Rattle.components.specs.computed.Written.{componentSet}
+use Rattle.paths.specs.computed.Check.{judge, lacks, setBefore, nextState, checkFrom}
 use Rattle.components.proofs.AccessLaws.{lacks-reads1, lacks-reads2}
 use Rattle.faults.specs.Rules.{destinationWrong}
-use Rattle.verifier.specs.State.{isMisplaced, setMet, metState, wroteState, partedState, withFault}
-use Rattle.verifier.specs.Step.{nextOf, faultOfPaths, followOf}
+use Rattle.verifier.specs.computed.State.{isMisplaced, setMet, metState, wroteState, partedState, withFault}
+use Rattle.verifier.specs.computed.Step.{nextOf, faultOfPaths, followOf}
 use Rattle.verifier.specs.declared.state.State.{State}
 use Rattle.verifier.proofs.Abstract.{abstractOf, branchesIn, misplaced-is, Valid}
 use Rattle.verifier.proofs.NextState.{Kept, wrote-is, nextAbstract, follows}

@@ -12,20 +12,20 @@ use lib.ListN.{length, take, drop, length-take, length-drop}
 use borrow.Author.Tests.{eq-eqb, ne-eqb, le-ltb, leb-true, not-true}
 use Rattle.laws.proofs.Every.{left as both-left, right as both-right}
 use Rattle.paths.specs.Unwritten.{nothing}
-use Rattle.components.specs.Written.{componentSet, halfOf}
+use Rattle.components.specs.computed.Written.{componentSet, halfOf}
 use Rattle.paths.specs.Faults.{refused}
-use Rattle.paths.specs.Check.{start, checkFrom, verdictOf}
+use Rattle.paths.specs.computed.Check.{start, checkFrom, verdictOf}
 use Rattle.bytecode.specs.Decode.{refusal, isClean, tokenFault}
 use Rattle.bytecode.specs.Fields.{fieldsOf, fieldsIn}
 use Rattle.layout.specs.Opcodes.{shapeOf}
 use Rattle.layout.specs.Programs.{tokenAt, stageOf, tokenCount}
-use Rattle.faults.specs.Faults.{undecodedFault}
+use Rattle.faults.specs.computed.Faults.{undecodedFault}
 use Rattle.faults.specs.Order.{tokensFrom, tokensOf}
-use Rattle.faults.specs.Profile.{profileOf}
+use Rattle.faults.specs.computed.Profile.{profileOf}
 use Rattle.faults.specs.declared.profile.Profile.{Profile}
-use Rattle.verifier.specs.State.{noneWritten, startState, withFault}
-use Rattle.verifier.specs.Step.{faultOfFields, stepOf}
-use Rattle.verifier.specs.Steps.{stepsOver, finishOf, judgedBy}
+use Rattle.verifier.specs.computed.State.{noneWritten, startState, withFault}
+use Rattle.verifier.specs.computed.Step.{faultOfFields, stepOf}
+use Rattle.verifier.specs.computed.Steps.{stepsOver, finishOf, judgedBy}
 use Rattle.verifier.specs.Verdict.{program, answerOf, opensUnlisted}
 use Rattle.verifier.specs.declared.answers.Checked.the-variants.{Accepted, Refused}
 use Rattle.verifier.specs.declared.state.State.{State}

@@ -20,13 +20,13 @@ use Rattle.registers.specs.Counts.{countOf}
 use Rattle.paths.specs.Paths.{TokenFault, PathToken}
 use Rattle.paths.specs.Faults.{refused}
 use Rattle.components.specs.Tokens.{pathTokenOf}
-use Rattle.paths.specs.Check.{checkFrom}
+use Rattle.paths.specs.computed.Check.{checkFrom}
 use Rattle.faults.specs.Rules.{opcodeTooNew, opcodeNotForStage, destinationWrong}
-use Rattle.faults.specs.Profile.{profileOf}
+use Rattle.faults.specs.computed.Profile.{profileOf}
 use Rattle.faults.specs.Order.{firstFault, tokenRules, pathTokenAt}
-use Rattle.faults.specs.Faults.{refusalAt, ownFault, undecodedFault}
-use Rattle.verifier.specs.State.{withFault}
-use Rattle.verifier.specs.Step.{faultOfFields, followOf, stepOf}
+use Rattle.faults.specs.computed.Faults.{refusalAt, ownFault, undecodedFault}
+use Rattle.verifier.specs.computed.State.{withFault}
+use Rattle.verifier.specs.computed.Step.{faultOfFields, followOf, stepOf}
 use Rattle.faults.specs.declared.profile.Profile.{Profile}
 use Rattle.verifier.specs.declared.state.State.{State}
 use Rattle.verifier.proofs.Abstract.{abstractOf, Valid}

@@ -10,10 +10,10 @@ use Rattle.layout.specs.declared.fields.Fields.{Fields}
 use Rattle.layout.specs.declared.opcodes.Flow.{Flow}
 use Rattle.faults.specs.declared.lawful.Usable.{Usable}
 use Rattle.faults.specs.declared.profile.Profile.{Profile}
-use Rattle.verifier.specs.Glance.{RunsOver, branchStep, KnownBranch, CanJudge}
-use Rattle.verifier.specs.State.{startState, withCurrent}
-use Rattle.verifier.specs.Step.{stepOf}
-use Rattle.verifier.specs.Steps.{stepsOver}
+use Rattle.verifier.specs.computed.Glance.{RunsOver, branchStep, KnownBranch, CanJudge}
+use Rattle.verifier.specs.computed.State.{startState, withCurrent}
+use Rattle.verifier.specs.computed.Step.{stepOf}
+use Rattle.verifier.specs.computed.Steps.{stepsOver}
 use Rattle.verifier.specs.declared.glance.Run.{Run}
 use Rattle.verifier.specs.declared.state.State.{State}
 use Rattle.verifier.proofs.StepsLaw.{Leads, leads-on, leads-by-step, stays}

@@ -1,8 +1,5 @@
 pub mod Accepted
 pub mod BenchCases
 pub mod Exact
-pub mod Glance
-pub mod State
-pub mod Step
-pub mod Steps
 pub mod Verdict
+pub mod computed

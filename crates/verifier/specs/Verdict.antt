@@ -12,7 +12,7 @@ use Rattle.bytecode.specs.Fields.{fieldsOf}
 use Rattle.bytecode.specs.Numbers.{Numbers, acceptedNumbers, refusalNumbers}
 use Rattle.paths.specs.Paths.{TokenFault}
 use Rattle.paths.specs.Faults.{Answer, accepted, refused}
-use Rattle.paths.specs.Check.{verdictOf}
+use Rattle.paths.specs.computed.Check.{verdictOf}
 use Rattle.layout.specs.Programs.{stageOf, tokenCount, tokenAt}
 use Rattle.faults.specs.Order.{firstFault, headerRules, tokensOf}
 use Rattle.verifier.specs.declared.answers.Program.{Program}

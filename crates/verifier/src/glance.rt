@@ -4,7 +4,7 @@ ghost use mathlib.Core.Bool.{true, false};
 ghost use mathlib.Core.Path.{_≡_};
 ghost use Prim.Native.Nat.{_*_, _+_, _≤_};
 ghost use lib.ListN.{length};
-ghost use Rattle.verifier.specs.Glance.{Passes, passedUnless, RunsOver, opensUnwritten, KnownBranch};
+ghost use Rattle.verifier.specs.computed.Glance.{Passes, passedUnless, RunsOver, opensUnwritten, KnownBranch};
 use crate::places;
 use crate::state;
 use crate::state::Branch;

@@ -5,7 +5,7 @@ ghost use mathlib.Core.Bool.{cond};
 ghost use mathlib.Core.Path.{_≡_};
 ghost use Prim.Native.Nat.{_<_};
 ghost use Rattle.layout.specs.Records.{destinationOf};
-ghost use Rattle.verifier.specs.State.{slotOf, slotAround, isOutOfPlace, setMet, withFault, exchangedState, joinedState, metState, openedState, partedState, writtenBy, wroteState};
+ghost use Rattle.verifier.specs.computed.State.{slotOf, slotAround, isOutOfPlace, setMet, withFault, exchangedState, joinedState, metState, openedState, partedState, writtenBy, wroteState};
 use bytecode::answers::Refusal;
 use components::written;
 use components::written::Written;

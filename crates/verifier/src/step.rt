@@ -2,7 +2,7 @@
 ghost use mathlib.Core.Path.{_≡_};
 ghost use Rattle.layout.specs.Opcodes.{shapeOf};
 ghost use Rattle.layout.specs.Records.{tokenOf};
-ghost use Rattle.verifier.specs.Step.{faultOfFields, faultOfPaths, stepOf};
+ghost use Rattle.verifier.specs.computed.Step.{faultOfFields, faultOfPaths, stepOf};
 use crate::state;
 use crate::state::Branch;
 use crate::state::State;

@@ -3,7 +3,7 @@
 use mathlib.Core.Path.{_∙_, sym}
 use borrow.Author.Tests.{not-true, not-false}
 use Rattle.layout.specs.Records.{directOf, tokenOf}
-use Rattle.components.specs.Access.{directAccess, components1Of}
+use Rattle.components.specs.computed.Access.{directAccess, components1Of}
 use Rattle.components.proofs.AccessLaws.{temporary, none-missing, lacking}
 use borrow.Author.Needs.{needs}
 use Rattle.components.proofs.access.direct_unwritten1.Statement.{statement}

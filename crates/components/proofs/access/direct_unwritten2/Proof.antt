@@ -4,7 +4,7 @@ use mathlib.Core.Path.{_∙_, sym, ap}
 use borrow.Author.Tests.{not-true, not-false}
 use Rattle.layout.specs.Records.{directOf, tokenOf}
 use Rattle.layout.specs.Opcodes.{rowCount2}
-use Rattle.components.specs.Access.{lacksSome, directAccess, components2Of}
+use Rattle.components.specs.computed.Access.{lacksSome, directAccess, components2Of}
 use Rattle.components.proofs.AccessLaws.{temporary, none-missing, lacking}
 use borrow.Author.Needs.{needs}
 use Rattle.components.proofs.access.direct_unwritten2.Statement.{statement}

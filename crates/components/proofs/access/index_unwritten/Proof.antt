@@ -4,7 +4,7 @@ use borrow.Author.Needs.{needs}
 use borrow.Author.Tests.{eq-eqb, ne-eqb}
 use mathlib.Core.Bool.{false}
 use mathlib.Core.Path.{_≡_, _∙_, ap}
-use Rattle.components.specs.Access.{lacksAccess, indexAccess}
+use Rattle.components.specs.computed.Access.{lacksAccess, indexAccess}
 use Rattle.components.proofs.access.index_unwritten.Statement.{statement}
 use Rattle.components.proofs.access.index_unwritten.Tie as tie
 

@@ -1,6 +1,6 @@
 -- `lacks_some` meets its contract.
 -- Assumes nothing.
-use Rattle.components.specs.Access.{lacksSome}
+use Rattle.components.specs.computed.Access.{lacksSome}
 use borrow.Author.Needs.{needs}
 use Rattle.components.proofs.access.lacks_some.Statement.{statement}
 use Rattle.components.proofs.access.lacks_some.Tie as tie

@@ -2,7 +2,7 @@
 -- Assumes nothing.
 use mathlib.Core.Path.{_∙_, ap, sym}
 use Rattle.layout.specs.Records.{operandOf, tokenOf}
-use Rattle.components.specs.Access.{lacksAccess, accessThrough, components1Of}
+use Rattle.components.specs.computed.Access.{lacksAccess, accessThrough, components1Of}
 use borrow.Author.Needs.{needs}
 use Rattle.components.proofs.access.reads_unwritten1.Statement.{statement}
 use Rattle.components.proofs.access.reads_unwritten1.Tie as tie

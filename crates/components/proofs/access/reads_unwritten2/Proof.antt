@@ -3,7 +3,7 @@
 use mathlib.Core.Path.{_∙_, ap, sym}
 use Rattle.layout.specs.Records.{operandOf, tokenOf}
 use Rattle.layout.specs.Opcodes.{rowCount2}
-use Rattle.components.specs.Access.{lacksAccess, accessThrough, components2Of}
+use Rattle.components.specs.computed.Access.{lacksAccess, accessThrough, components2Of}
 use borrow.Author.Needs.{needs}
 use Rattle.components.proofs.access.reads_unwritten2.Statement.{statement}
 use Rattle.components.proofs.access.reads_unwritten2.Tie as tie

@@ -3,7 +3,7 @@
 use mathlib.Core.Path.{_∙_, ap, sym}
 use Rattle.layout.specs.Records.{tokenOf}
 use Rattle.layout.proofs.SourceKinds.{indexed-source, direct-source}
-use Rattle.components.specs.Access.{lacksAccess, accessThrough, components1Of}
+use Rattle.components.specs.computed.Access.{lacksAccess, accessThrough, components1Of}
 use borrow.Author.Needs.{needs}
 use Rattle.components.proofs.access.source_unwritten1.Statement.{statement}
 use Rattle.components.proofs.access.source_unwritten1.Tie as tie

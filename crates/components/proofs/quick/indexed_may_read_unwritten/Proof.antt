@@ -1,6 +1,6 @@
 -- `indexed_may_read_unwritten` meets its contract.
 -- Assumes nothing.
-use Rattle.components.specs.QuickTests.{indexedMayReadUnwritten}
+use Rattle.components.specs.computed.QuickTests.{indexedMayReadUnwritten}
 use Rattle.components.specs.ReadsWritten.{IndexedReads}
 use Rattle.components.proofs.QuickLaws.{with-meaning, indexed-reads}
 use borrow.Author.Needs.{needs}

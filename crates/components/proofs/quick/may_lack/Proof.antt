@@ -1,7 +1,7 @@
 -- `may_lack` meets its contract.
 -- Assumes nothing.
 use mathlib.Core.Path.{_∙_, sym}
-use Rattle.components.specs.QuickTests.{mayLack}
+use Rattle.components.specs.computed.QuickTests.{mayLack}
 use borrow.Author.Needs.{needs}
 use Rattle.components.proofs.quick.may_lack.Statement.{statement}
 use Rattle.components.proofs.quick.may_lack.Tie as tie

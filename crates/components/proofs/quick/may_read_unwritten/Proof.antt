@@ -5,8 +5,8 @@ use mathlib.Core.Path.{_∙_, sym}
 use borrow.Author.Tests.{not-true}
 use Rattle.laws.proofs.Every.{neither}
 use Rattle.layout.specs.Records.{directOf, registerOf}
-use Rattle.layout.specs.Sets.{namedSet, selectorSet1, selectorSet2}
-use Rattle.components.specs.QuickTests.{mayReadUnwritten}
+use Rattle.layout.specs.computed.Sets.{namedSet, selectorSet1, selectorSet2}
+use Rattle.components.specs.computed.QuickTests.{mayReadUnwritten}
 use Rattle.components.specs.ReadsWritten.{OrdinaryReads}
 use Rattle.components.proofs.QuickLaws.{with-meaning, ordinary-reads}
 use Rattle.components.proofs.AccessLaws.{none-missing}

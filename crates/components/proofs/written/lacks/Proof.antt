@@ -4,7 +4,7 @@ use Prim.Native.Nat.{_+_, _-_, _≤_}
 use mathlib.Core.Path.{_≡_, sym, _∙_}
 use native.Mathlib.Omega.{arith}
 use borrow.Author.Needs.{needs}
-use Rattle.components.specs.Written.{lacksOf}
+use Rattle.components.specs.computed.Written.{lacksOf}
 use Rattle.components.proofs.Lacking.{lacks-first, lacks-none}
 use Rattle.components.proofs.written.lacks.Statement.{statement}
 use Rattle.components.proofs.written.lacks.Tie as tie

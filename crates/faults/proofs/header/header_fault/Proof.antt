@@ -1,8 +1,8 @@
 -- `header_fault` meets its contract.
 -- Assumes nothing.
 use borrow.Author.Tests.{lt-ltb, le-ltb, eq-eqb, ne-eqb}
-use Rattle.faults.specs.Header.{headerFault}
-use Rattle.faults.specs.Header.{restFault}
+use Rattle.faults.specs.computed.Header.{headerFault}
+use Rattle.faults.specs.computed.Header.{restFault}
 use borrow.Author.Needs.{needs}
 use Rattle.faults.proofs.header.header_fault.Statement.{statement}
 use Rattle.faults.proofs.header.header_fault.Tie as tie

@@ -2,7 +2,7 @@
 -- Assumes nothing.
 use mathlib.Core.Path.{_∙_, sym}
 use borrow.Author.Tests.{not-true, not-false}
-use Rattle.faults.specs.LawfulTests.{isLawful}
+use Rattle.faults.specs.computed.LawfulTests.{isLawful}
 use Rattle.faults.proofs.LawfulMeaning.{none-broken, told-with}
 use Rattle.faults.proofs.LawfulToken.{lawful}
 use borrow.Author.Needs.{needs}

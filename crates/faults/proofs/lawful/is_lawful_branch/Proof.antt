@@ -1,7 +1,7 @@
 -- `is_lawful_branch` meets its contract.
 -- Assumes nothing.
 use mathlib.Core.Path.{sym}
-use Rattle.faults.specs.LawfulTests.{isLawfulBranch}
+use Rattle.faults.specs.computed.LawfulTests.{isLawfulBranch}
 use Rattle.faults.proofs.LawfulMeaning.{none-broken, told-under}
 use Rattle.faults.proofs.LawfulBranch.{lawful-branch}
 use borrow.Author.Needs.{needs}

@@ -1,6 +1,6 @@
 -- `is_lawful_destination` meets its contract.
 -- Assumes nothing.
-use Rattle.faults.specs.LawfulTests.{isLawfulDestination}
+use Rattle.faults.specs.computed.LawfulTests.{isLawfulDestination}
 use borrow.Author.Needs.{needs}
 use Rattle.faults.proofs.lawful.is_lawful_destination.Statement.{statement}
 use Rattle.faults.proofs.lawful.is_lawful_destination.Tie as tie

@@ -1,7 +1,7 @@
 -- `is_lawful_either` meets its contract.
 -- Assumes nothing.
 use mathlib.Core.Path.{_∙_, sym}
-use Rattle.faults.specs.LawfulTests.{isLawfulEither}
+use Rattle.faults.specs.computed.LawfulTests.{isLawfulEither}
 use borrow.Author.Needs.{needs}
 use Rattle.faults.proofs.lawful.is_lawful_either.Statement.{statement}
 use Rattle.faults.proofs.lawful.is_lawful_either.Tie as tie

@@ -1,7 +1,7 @@
 -- `is_lawful_indexed` meets its contract.
 -- Assumes nothing.
 use mathlib.Core.Path.{sym}
-use Rattle.faults.specs.LawfulTests.{isLawfulIndexed}
+use Rattle.faults.specs.computed.LawfulTests.{isLawfulIndexed}
 use Rattle.faults.proofs.LawfulMeaning.{none-broken, told-with}
 use Rattle.faults.proofs.LawfulIndexed.{lawful-indexed}
 use borrow.Author.Needs.{needs}

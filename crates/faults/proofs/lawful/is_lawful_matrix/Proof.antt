@@ -2,7 +2,7 @@
 -- Assumes nothing.
 use mathlib.Core.Path.{_∙_, sym}
 use borrow.Author.Tests.{eq-eqb, ne-eqb}
-use Rattle.faults.specs.LawfulTests.{isLawfulMatrix}
+use Rattle.faults.specs.computed.LawfulTests.{isLawfulMatrix}
 use Rattle.faults.proofs.LawfulMeaning.{none-broken, told-with}
 use Rattle.faults.proofs.LawfulToken.{lawful-matrix}
 use borrow.Author.Needs.{needs}

@@ -1,6 +1,6 @@
 -- `is_lawful_source` meets its contract.
 -- Assumes nothing.
-use Rattle.faults.specs.LawfulTests.{isLawfulSource}
+use Rattle.faults.specs.computed.LawfulTests.{isLawfulSource}
 use borrow.Author.Needs.{needs}
 use Rattle.faults.proofs.lawful.is_lawful_source.Statement.{statement}
 use Rattle.faults.proofs.lawful.is_lawful_source.Tie as tie

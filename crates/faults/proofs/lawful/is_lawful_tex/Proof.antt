@@ -1,7 +1,7 @@
 -- `is_lawful_tex` meets its contract.
 -- Assumes nothing.
 use borrow.Author.Tests.{eq-eqb, ne-eqb}
-use Rattle.faults.specs.LawfulTests.{isLawfulTex}
+use Rattle.faults.specs.computed.LawfulTests.{isLawfulTex}
 use Rattle.faults.proofs.LawfulMeaning.{none-broken, told-under}
 use Rattle.faults.proofs.LawfulToken.{lawful-tex}
 use borrow.Author.Needs.{needs}

@@ -1,6 +1,6 @@
 -- `is_rightly_indexed` meets its contract.
 -- Assumes nothing.
-use Rattle.faults.specs.LawfulTests.{isRightlyIndexed}
+use Rattle.faults.specs.computed.LawfulTests.{isRightlyIndexed}
 use borrow.Author.Needs.{needs}
 use Rattle.faults.proofs.lawful.is_rightly_indexed.Statement.{statement}
 use Rattle.faults.proofs.lawful.is_rightly_indexed.Tie as tie

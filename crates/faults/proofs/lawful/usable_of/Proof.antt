@@ -1,7 +1,7 @@
 -- `usable_of` meets its contract.
 -- Assumes nothing.
 use borrow.Author.Tests.{eq-eqb, ne-eqb}
-use Rattle.faults.specs.LawfulTests.{usableOf}
+use Rattle.faults.specs.computed.LawfulTests.{usableOf}
 use borrow.Author.Needs.{needs}
 use Rattle.faults.proofs.lawful.usable_of.Statement.{statement}
 use Rattle.faults.proofs.lawful.usable_of.Tie as tie

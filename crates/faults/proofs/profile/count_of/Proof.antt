@@ -1,7 +1,7 @@
 -- `count_of` meets its contract.
 -- Assumes nothing.
 use borrow.Author.Tests.{le-leb, lt-leb}
-use Rattle.faults.specs.Profile.{countIn}
+use Rattle.faults.specs.computed.Profile.{countIn}
 use borrow.Author.Needs.{needs}
 use Rattle.faults.proofs.profile.count_of.Statement.{statement}
 use Rattle.faults.proofs.profile.count_of.Tie as tie

@@ -4,9 +4,9 @@ use mathlib.Core.Bool.{false}
 use mathlib.Core.Path.{_∙_, ap, sym}
 use Rattle.layout.specs.Records.{operandOf}
 use Rattle.faults.specs.Rules.{samplerWrong}
-use Rattle.faults.specs.Profile.{countIn}
+use Rattle.faults.specs.computed.Profile.{countIn}
 use Rattle.faults.specs.Order.{firstFault, sourceRules}
-use Rattle.faults.specs.Faults.{numberOf, swizzleWrong}
+use Rattle.faults.specs.computed.Faults.{numberOf, swizzleWrong}
 use Rattle.faults.proofs.FaultLaws.{number-two, twoFaults}
 use borrow.Author.Needs.{needs}
 use Rattle.faults.proofs.tokens.operand_fault.Statement.{statement}

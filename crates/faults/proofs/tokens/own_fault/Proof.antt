@@ -1,7 +1,7 @@
 -- `own_fault` meets its contract.
 -- Assumes nothing.
 use Rattle.layout.specs.Records.{tokenOf}
-use Rattle.faults.specs.Faults.{ownFault}
+use Rattle.faults.specs.computed.Faults.{ownFault}
 use borrow.Author.Needs.{needs}
 use Rattle.faults.proofs.tokens.own_fault.Statement.{statement}
 use Rattle.faults.proofs.tokens.own_fault.Tie as tie

@@ -7,9 +7,9 @@ use Rattle.layout.specs.Records.{isIndexed, directOf, sourceOf}
 use Rattle.layout.specs.declared.record.DirectSource.{DirectSource}
 use Rattle.layout.proofs.SourceKinds.{indexed-source, direct-source}
 use Rattle.faults.specs.Rules.{indexedWrong, directWrong}
-use Rattle.faults.specs.Profile.{countIn}
+use Rattle.faults.specs.computed.Profile.{countIn}
 use Rattle.faults.specs.Order.{firstFault, sourceRules}
-use Rattle.faults.specs.Faults.{numberOf, swizzleWrong}
+use Rattle.faults.specs.computed.Faults.{numberOf, swizzleWrong}
 use Rattle.faults.specs.declared.profile.Profile.{Profile}
 use Rattle.faults.proofs.FaultLaws.{number-two, twoFaults}
 use borrow.Author.Needs.{needs}

@@ -1,7 +1,7 @@
 -- `undecoded_fault` meets its contract.
 -- Assumes nothing.
 use borrow.Author.Tests.{lt-ltb, le-ltb}
-use Rattle.faults.specs.Faults.{undecodedFault}
+use Rattle.faults.specs.computed.Faults.{undecodedFault}
 use borrow.Author.Needs.{needs}
 use Rattle.faults.proofs.tokens.undecoded_fault.Statement.{statement}
 use Rattle.faults.proofs.tokens.undecoded_fault.Tie as tie

@@ -2,7 +2,7 @@
 -- Assumes nothing.
 use borrow.Author.Needs.{needs}
 use borrow.Author.Tests.{lt-ltb, le-ltb}
-use Rattle.layout.specs.Sets.{amongOf}
+use Rattle.layout.specs.computed.Sets.{amongOf}
 use Rattle.layout.proofs.opcodes.among.Statement.{statement}
 use Rattle.layout.proofs.opcodes.among.Tie as tie
 

@@ -2,7 +2,7 @@
 -- Assumes nothing.
 use borrow.Author.Needs.{needs}
 use borrow.Author.Tests.{eq-eqb, ne-eqb}
-use Rattle.layout.specs.Sets.{readSet2}
+use Rattle.layout.specs.computed.Sets.{readSet2}
 use Rattle.layout.proofs.selection.components2.Statement.{statement}
 use Rattle.layout.proofs.selection.components2.Tie as tie
 

@@ -2,7 +2,7 @@
 -- Assumes nothing.
 use mathlib.Core.Path.{_∙_, sym, ap}
 use borrow.Author.Needs.{needs}
-use Rattle.layout.specs.Sets.{namedSet}
+use Rattle.layout.specs.computed.Sets.{namedSet}
 use Rattle.layout.proofs.SelectionLaws.{all-named}
 use Rattle.layout.proofs.selection.components_read.Statement.{statement}
 use Rattle.layout.proofs.selection.components_read.Tie as tie

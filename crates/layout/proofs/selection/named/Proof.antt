@@ -1,7 +1,7 @@
 -- `named` meets its contract.
 -- Assumes nothing.
 use borrow.Author.Needs.{needs}
-use Rattle.layout.specs.Sets.{namedSet}
+use Rattle.layout.specs.computed.Sets.{namedSet}
 use Rattle.layout.proofs.selection.named.Statement.{statement}
 use Rattle.layout.proofs.selection.named.Tie as tie
 

@@ -3,7 +3,7 @@
 use mathlib.Core.Path.{sym}
 use borrow.Author.Needs.{needs}
 use borrow.Author.Tests.{eq-eqb, ne-eqb}
-use Rattle.layout.specs.Sets.{selectorSet1}
+use Rattle.layout.specs.computed.Sets.{selectorSet1}
 use Rattle.layout.specs.Selections.{byThree1, byFour1}
 use Rattle.layout.proofs.OpcodeSets.{listed-as, by-mask}
 use Rattle.layout.proofs.selection.selectors1.Statement.{statement}

@@ -1,7 +1,7 @@
 -- `selectors2` meets its contract.
 -- Assumes nothing.
 use borrow.Author.Needs.{needs}
-use Rattle.layout.specs.Sets.{selectorSet2}
+use Rattle.layout.specs.computed.Sets.{selectorSet2}
 use Rattle.layout.specs.Selections.{byThree2, byFour2}
 use Rattle.layout.proofs.OpcodeSets.{listed-as}
 use Rattle.layout.proofs.selection.selectors2.Statement.{statement}

@@ -3,7 +3,7 @@
 use borrow.Author.Needs.{needs}
 use mathlib.Core.Path.{ap}
 use native.Mathlib.Omega.{arith}
-use Rattle.listing.specs.Writers.{operandRoom}
+use Rattle.listing.specs.computed.Writers.{operandRoom}
 use Rattle.listing.proofs.OperandLaws.{direct-kind, indexed-kinds, sampler-kind}
 use Rattle.listing.proofs.Writing.{none}
 use Rattle.listing.proofs.operands.put_operand.Statement.{statement}

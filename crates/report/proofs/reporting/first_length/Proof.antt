@@ -2,7 +2,7 @@
 -- Assumes nothing.
 use borrow.Author.Needs.{needs}
 use Rattle.listing.proofs.FirstMost.{first-most}
-use Rattle.report.specs.Writers.{forAny}
+use Rattle.report.specs.computed.Writers.{forAny}
 use Rattle.report.proofs.Room.{put-length}
 use Rattle.report.proofs.reporting.first_length.Statement.{statement}
 use Rattle.report.proofs.reporting.first_length.Tie as tie

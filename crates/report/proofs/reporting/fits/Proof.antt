@@ -2,7 +2,7 @@
 -- Assumes nothing.
 use borrow.Author.Needs.{needs}
 use native.Mathlib.Omega.{arith}
-use Rattle.report.specs.Writers.{forAny}
+use Rattle.report.specs.computed.Writers.{forAny}
 use Rattle.report.proofs.Room.{by-length}
 use Rattle.report.proofs.reporting.fits.Statement.{statement}
 use Rattle.report.proofs.reporting.fits.Tie as tie

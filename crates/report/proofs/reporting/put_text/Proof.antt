@@ -3,7 +3,7 @@
 use borrow.Author.Needs.{needs}
 use mathlib.Core.Path.{sym, subst}
 use denote.Ref.{now}
-use Rattle.report.specs.Writers.{HasRoom}
+use Rattle.report.specs.computed.Writers.{HasRoom}
 use Rattle.report.proofs.FirstLine.{cut, first-short, first-room, only, listed, lines-room, both-put, has-digit}
 use Rattle.report.proofs.Room.{wider}
 use Rattle.report.proofs.reporting.put_text.Statement.{statement}

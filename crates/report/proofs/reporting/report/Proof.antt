@@ -4,7 +4,7 @@ use borrow.Author.Needs.{needs}
 use mathlib.Core.Path.{subst}
 use borrow.Author.Tests.{not-true, not-false}
 use Rattle.listing.proofs.PrintLaws.{too-short}
-use Rattle.report.specs.Writers.{Fits}
+use Rattle.report.specs.computed.Writers.{Fits}
 use Rattle.report.proofs.Room.{put-printed}
 use Rattle.report.proofs.Whole.{reported}
 use Rattle.report.proofs.reporting.report.Statement.{statement}

@@ -1,7 +1,7 @@
 -- `line_length` meets its contract.
 -- Assumes nothing.
 use borrow.Author.Needs.{needs}
-use Rattle.report.specs.Writers.{forAny}
+use Rattle.report.specs.computed.Writers.{forAny}
 use Rattle.report.proofs.Room.{put-length}
 use Rattle.report.proofs.tokens.line_length.Statement.{statement}
 use Rattle.report.proofs.tokens.line_length.Tie as tie

@@ -10,7 +10,7 @@ use denote.Ref.{now}
 use Rattle.listing.proofs.Writing.{onwards}
 use Rattle.layout.specs.Programs.{tokenCount}
 use Rattle.report.specs.Lines.{linesFrom}
-use Rattle.report.specs.Writers.{allLines, HasRoom}
+use Rattle.report.specs.computed.Writers.{allLines, HasRoom}
 use Rattle.report.proofs.Turn.{Walked, decodes, nameable, low, line-room, walks, grows, starts, starts-text, finished, at-end}
 use Rattle.report.proofs.tokens.put_tokens.Statement.{statement}
 use Rattle.report.proofs.tokens.put_tokens.Tie as tie

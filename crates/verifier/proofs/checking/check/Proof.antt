@@ -6,7 +6,7 @@ use mathlib.Core.Path.{_≡_, _∙_, sym, ap}
 use borrow.Author.Needs.{needs}
 use denote.Ref.{now}
 use Rattle.bytecode.specs.declared.answers.Refusal.{Refusal}
-use Rattle.faults.specs.Header.{headerFault}
+use Rattle.faults.specs.computed.Header.{headerFault}
 use Rattle.verifier.specs.Exact.{HeaderRight}
 use Rattle.verifier.specs.declared.answers.Checked.the-variants.{Refused}
 use Rattle.verifier.proofs.HeaderLaw.{header-refuses, header-right, tokens-answer, has-header, few-tokens}

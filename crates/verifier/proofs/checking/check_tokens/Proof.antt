@@ -4,9 +4,9 @@ use Prim.Native.Nat.{ℕ}
 use mathlib.Core.Path.{_≡_, _∙_, sym, ap}
 use native.Mathlib.Omega.{arith}
 use borrow.Author.Needs.{needs}
-use Rattle.faults.specs.Profile.{profileOf}
+use Rattle.faults.specs.computed.Profile.{profileOf}
 use Rattle.faults.specs.declared.profile.Profile.{Profile}
-use Rattle.verifier.specs.Steps.{judgedBy}
+use Rattle.verifier.specs.computed.Steps.{judgedBy}
 use Rattle.verifier.proofs.checking.check_tokens.Statement.{statement}
 use Rattle.verifier.proofs.checking.check_tokens.Tie as tie
 

@@ -2,8 +2,8 @@
 -- Assumes nothing.
 use mathlib.Core.Bool.{false≢true}
 use mathlib.Core.Path.{_∙_, sym, ap}
-use Rattle.components.specs.QuickTests.{mayReadUnwritten, matrixMayReadUnwritten, texMayReadUnwritten, indexedMayReadUnwritten}
-use Rattle.faults.specs.LawfulTests.{isLawful, isLawfulMatrix, isLawfulTex, isLawfulIndexed}
+use Rattle.components.specs.computed.QuickTests.{mayReadUnwritten, matrixMayReadUnwritten, texMayReadUnwritten, indexedMayReadUnwritten}
+use Rattle.faults.specs.computed.LawfulTests.{isLawful, isLawfulMatrix, isLawfulTex, isLawfulIndexed}
 use Rattle.faults.proofs.LawfulToken.{lawful, lawful-matrix, lawful-tex}
 use Rattle.faults.proofs.LawfulIndexed.{lawful-indexed}
 use Rattle.verifier.proofs.GlanceLaw.{passes-by}

@@ -6,9 +6,9 @@ use native.Mathlib.Omega.{arith}
 use borrow.Author.Needs.{needs}
 use borrow.Author.Tests.{not-false}
 use denote.Ref.{now}
-use Rattle.verifier.specs.Glance.{Whenever}
-use Rattle.verifier.specs.State.{withCurrent}
-use Rattle.verifier.specs.Steps.{stepsOver}
+use Rattle.verifier.specs.computed.Glance.{Whenever}
+use Rattle.verifier.specs.computed.State.{withCurrent}
+use Rattle.verifier.specs.computed.Steps.{stepsOver}
 use Rattle.verifier.proofs.GlanceLaw.{run-none, run-more}
 use Rattle.verifier.proofs.glance.pass_tokens.Statement.{statement}
 use Rattle.verifier.proofs.glance.pass_tokens.Tie as tie

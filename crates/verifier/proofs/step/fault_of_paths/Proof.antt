@@ -1,7 +1,7 @@
 -- `fault_of_paths` meets its contract.
 -- Assumes nothing.
 use Rattle.layout.specs.Records.{tokenOf}
-use Rattle.verifier.specs.Step.{faultOfPaths}
+use Rattle.verifier.specs.computed.Step.{faultOfPaths}
 use borrow.Author.Needs.{needs}
 use Rattle.verifier.proofs.step.fault_of_paths.Statement.{statement}
 use Rattle.verifier.proofs.step.fault_of_paths.Tie as tie

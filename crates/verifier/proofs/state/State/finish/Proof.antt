@@ -1,7 +1,7 @@
 -- `finish` meets its contract.
 -- Assumes nothing.
 use borrow.Author.Tests.{eq-eqb, ne-eqb}
-use Rattle.verifier.specs.Steps.{finishOf}
+use Rattle.verifier.specs.computed.Steps.{finishOf}
 use borrow.Author.Needs.{needs}
 use Rattle.verifier.proofs.state.State.finish.Statement.{statement}
 use Rattle.verifier.proofs.state.State.finish.Tie as tie

@@ -2,7 +2,7 @@
 -- Assumes nothing.
 use borrow.Author.Tests.{eq-eqb, ne-eqb}
 use Rattle.layout.specs.Records.{tokenOf}
-use Rattle.verifier.specs.Step.{followOf, stepOf}
+use Rattle.verifier.specs.computed.Step.{followOf, stepOf}
 use borrow.Author.Needs.{needs}
 use Rattle.verifier.proofs.state.State.step.Statement.{statement}
 use Rattle.verifier.proofs.state.State.step.Tie as tie

@@ -6,7 +6,7 @@ use lib.Dec.{eqb, ltb, leb}
 use lib.ListN.{getD, set, replicate}
 use Rattle.bytecode.specs.Decode.{noRefusal}
 use Rattle.bytecode.specs.declared.answers.Refusal.{Refusal}
-use Rattle.components.specs.Written.{joinOf, markOf}
+use Rattle.components.specs.computed.Written.{joinOf, markOf}
 use Rattle.components.specs.declared.written.Written.{Written}
 use Rattle.layout.specs.declared.opcodes.Flow.{Flow}
 use Rattle.layout.specs.declared.opcodes.Flow.the-variants.{Plain, Opener, Els, Eif}

@@ -5,7 +5,7 @@ use mathlib.Core.Bool.{Bool, cond, not}
 use lib.Bits.{bitAnd, bitOr}
 use lib.Dec.{ltb, eqb}
 use Rattle.paths.specs.Unwritten.{ComponentSet}
-use Rattle.paths.specs.Check.{lacks}
+use Rattle.paths.specs.computed.Check.{lacks}
 use Rattle.layout.specs.Swizzles.{bitOf, maskComponents}
 use Rattle.components.specs.Reads.{rowsOf, temporaries}
 use Rattle.components.specs.declared.written.Written.{Written}

@@ -8,15 +8,15 @@ use Rattle.layout.specs.Records.{registerOf}
 use Rattle.layout.specs.declared.fields.Fields.{Fields}
 use Rattle.layout.specs.declared.opcodes.Flow.{Flow}
 use Rattle.layout.specs.declared.opcodes.Flow.the-variants.{Plain, Opener, Els, Eif}
-use Rattle.components.specs.QuickTests.{openerMayReadUnwritten}
+use Rattle.components.specs.computed.QuickTests.{openerMayReadUnwritten}
 use Rattle.components.specs.declared.written.Written.{Written}
-use Rattle.faults.specs.LawfulTests.{usableOf}
-use Rattle.faults.specs.Profile.{profileOf}
+use Rattle.faults.specs.computed.LawfulTests.{usableOf}
+use Rattle.faults.specs.computed.Profile.{profileOf}
 use Rattle.faults.specs.declared.lawful.Usable.{Usable}
 use Rattle.faults.specs.declared.profile.Profile.{Profile}
-use Rattle.verifier.specs.State.{withCurrent, exchangedState, joinedState, openedState, writtenBy}
-use Rattle.verifier.specs.Step.{stepOf}
-use Rattle.verifier.specs.Steps.{stepsOver}
+use Rattle.verifier.specs.computed.State.{withCurrent, exchangedState, joinedState, openedState, writtenBy}
+use Rattle.verifier.specs.computed.Step.{stepOf}
+use Rattle.verifier.specs.computed.Steps.{stepsOver}
 use Rattle.verifier.specs.declared.glance.Passed.{Passed}
 use Rattle.verifier.specs.declared.glance.Run.{Run}
 use Rattle.verifier.specs.declared.state.Branch.{Branch}

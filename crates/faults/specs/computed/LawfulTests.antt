@@ -8,12 +8,12 @@ use Rattle.layout.specs.Layout as layout
 use Rattle.layout.specs.Layout.{valueOf, operandBits, isStray}
 use Rattle.layout.specs.Opcodes.{shapeOf, tex, isOpener, isBranch, rowCount2}
 use Rattle.layout.specs.Records.{isIndexed, destinationOf, samplerOf}
-use Rattle.layout.specs.Sets.{amongOf, ordinarySet}
+use Rattle.layout.specs.computed.Sets.{amongOf, ordinarySet}
 use Rattle.layout.specs.declared.fields.Fields.{Fields}
 use Rattle.layout.specs.declared.opcodes.OperandShape.{OperandShape}
 use Rattle.layout.specs.declared.opcodes.OperandShape.the-variants.{Unused, Source, Sampler}
 use Rattle.faults.specs.Rules.{maskWrong, samplerWrong}
-use Rattle.faults.specs.Profile.{countIn}
+use Rattle.faults.specs.computed.Profile.{countIn}
 use Rattle.faults.specs.declared.lawful.Usable.{Usable}
 use Rattle.faults.specs.declared.profile.Profile.{Profile}
 

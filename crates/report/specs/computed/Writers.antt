@@ -5,7 +5,7 @@ use mathlib.Core.List.{List, [], _++_}
 use mathlib.Core.Path.{_≡_}
 use lib.ListN.{length}
 use Rattle.listing.specs.First.{firstLine}
-use Rattle.listing.specs.Writers.{Appends}
+use Rattle.listing.specs.computed.Writers.{Appends}
 use Rattle.listing.specs.declared.first.FirstLine.{FirstLine}
 use Rattle.listing.specs.declared.first.FirstLine.the-variants.{Accepted, Refused, NoEdition, InputTooLong}
 use Rattle.layout.specs.Programs.{tokenCount}

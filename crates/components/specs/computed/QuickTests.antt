@@ -3,9 +3,9 @@ use Prim.Native.Nat.{ℕ}
 use mathlib.Core.Bool.{Bool, cond, _||_}
 use Rattle.layout.specs.Opcodes.{rowCount2}
 use Rattle.layout.specs.Records.{registerOf, directOf, isIndexed, indexedOf, samplerOf}
-use Rattle.layout.specs.Sets.{coordinateSet, selectorSet1, selectorSet2}
+use Rattle.layout.specs.computed.Sets.{coordinateSet, selectorSet1, selectorSet2}
 use Rattle.layout.specs.declared.fields.Fields.{Fields}
-use Rattle.components.specs.Access.{lacksAccess, lacksSome, selectedAccess, indexAccess}
+use Rattle.components.specs.computed.Access.{lacksAccess, lacksSome, selectedAccess, indexAccess}
 use Rattle.components.specs.declared.written.Written.{Written}
 
 -- what is read through two direct sources of one row each is not all written

@@ -6,10 +6,10 @@ use lib.Dec.{eqb}
 use Rattle.bytecode.specs.Decode.{refusal}
 use Rattle.bytecode.specs.Fields.{fieldsOf}
 use Rattle.layout.specs.Programs.{tokenAt, stageOf, tokenCount}
-use Rattle.faults.specs.Profile.{profileOf}
+use Rattle.faults.specs.computed.Profile.{profileOf}
 use Rattle.faults.specs.declared.profile.Profile.{Profile}
-use Rattle.verifier.specs.State.{startState}
-use Rattle.verifier.specs.Step.{stepOf}
+use Rattle.verifier.specs.computed.State.{startState}
+use Rattle.verifier.specs.computed.Step.{stepOf}
 use Rattle.verifier.specs.Verdict.{program}
 use Rattle.verifier.specs.declared.answers.Checked.{Checked}
 use Rattle.verifier.specs.declared.answers.Checked.the-variants.{Accepted, Refused}

@@ -5,7 +5,7 @@ use mathlib.Core.Bool.{Bool, _&&_}
 use mathlib.Core.List.{List}
 use lib.Dec.{eqb}
 use Rattle.layout.specs.Opcodes.{rowCount2}
-use Rattle.layout.specs.Sets.{namedSet, selectorSet1, readSet2}
+use Rattle.layout.specs.computed.Sets.{namedSet, selectorSet1, readSet2}
 use Rattle.layout.specs.declared.record.DirectSource.{DirectSource}
 use Rattle.layout.specs.declared.record.IndexedSource.{IndexedSource}
 use Rattle.layout.specs.declared.record.Operand.{Operand}
@@ -13,7 +13,7 @@ use Rattle.layout.specs.declared.record.Operand.the-variants.{Unused as NoOpera
 use Rattle.layout.specs.declared.record.Token.{Token}
 use Rattle.layout.specs.Swizzles.{maskComponents}
 use Rattle.components.specs.Reads.{Component, rowsOf, maskOf, dimensionOf}
-use Rattle.components.specs.Written.{lacksOf}
+use Rattle.components.specs.computed.Written.{lacksOf}
 use Rattle.components.specs.declared.written.Written.{Written}
 
 -- a register of some kind, how many rows from it, and the components that are read of each: bit 0 is x, bit 3 is w

@@ -9,11 +9,11 @@ use Rattle.layout.specs.Records.{tokenOf}
 use Rattle.layout.specs.declared.fields.Fields.{Fields}
 use Rattle.layout.specs.declared.opcodes.Flow.{Flow}
 use Rattle.layout.specs.declared.record.Token.{Token}
-use Rattle.components.specs.Access.{lacksAccess, access1Of, access2Of}
+use Rattle.components.specs.computed.Access.{lacksAccess, access1Of, access2Of}
 use Rattle.components.specs.declared.written.Written.{Written}
-use Rattle.faults.specs.Faults.{ownFault, undecodedFault}
+use Rattle.faults.specs.computed.Faults.{ownFault, undecodedFault}
 use Rattle.faults.specs.declared.profile.Profile.{Profile}
-use Rattle.verifier.specs.State.{isOutOfPlace, setMet, metState, wroteState, partedState, withFault}
+use Rattle.verifier.specs.computed.State.{isOutOfPlace, setMet, metState, wroteState, partedState, withFault}
 use Rattle.verifier.specs.declared.state.Branch.{Branch}
 use Rattle.verifier.specs.declared.state.State.{State}
 

@@ -4,7 +4,7 @@ use mathlib.Core.List.{List, [], _∷_}
 use Rattle.bytecode.specs.declared.answers.Refusal.{Refusal}
 use Rattle.faults.specs.Rules.{typeIdWrong, stageWrong, tokensNotWhole, tokensTooMany}
 use Rattle.faults.specs.Order.{rule, firstFault, headerRules}
-use Rattle.faults.specs.Faults.{refusalAt}
+use Rattle.faults.specs.computed.Faults.{refusalAt}
 
 -- faults 1 to 8, at token 0
 unfoldable pub headerFault : ℕ → List ℕ → Refusal

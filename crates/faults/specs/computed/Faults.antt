@@ -8,7 +8,7 @@ use Rattle.bytecode.specs.declared.answers.Refusal.{Refusal}
 use Rattle.layout.specs.declared.record.Token.{Token}
 use Rattle.paths.specs.Paths.{TokenFault}
 use Rattle.faults.specs.Rules.{opcodeTooNew, opcodeNotForStage, selectorsDiffer, matrixSwizzled}
-use Rattle.faults.specs.Profile.{countIn}
+use Rattle.faults.specs.computed.Profile.{countIn}
 use Rattle.faults.specs.Order.{firstFault, recordRules}
 use Rattle.faults.specs.declared.profile.Profile.{Profile}
 
