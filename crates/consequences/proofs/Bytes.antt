@@ -29,8 +29,7 @@ same-bytes s other t h k e f =
     ∙ sym (round-trip .bytes s t h e room (lit≤ tt) .1) ∙ round-trip .bytes other t k f room (lit≤ tt) .1
     ∙ append-nil other
 
--- an answer that is a token is one token
-pub one-token : (t other : Token) → Decodes t ≡ Decodes other → t ≡ other
+one-token : (t other : Token) → Decodes t ≡ Decodes other → t ≡ other
 one-token t other e = cc
 
 pub same-record : SameRecord

@@ -1,8 +1,8 @@
 -- Whoever reads an accepted program on gets check's count and the program's bytes; a refusal stays.
 -- Assumes nothing.
-use Prim.Native.Nat.{ℕ, zero, suc, _+_, _-_, _<_, _≤_}
+use Prim.Native.Nat.{ℕ, zero, suc, _+_, _-_, _<_}
 use mathlib.Core.List.{List}
-use mathlib.Core.Path.{_≡_, refl, sym, ap, _∙_, subst}
+use mathlib.Core.Path.{_≡_, refl, sym, ap, _∙_}
 use native.Mathlib.Decide.{decLt}
 use native.Mathlib.Nat.{add-zero, add-suc}
 use native.Mathlib.Omega.{arith}
@@ -11,17 +11,15 @@ use Rattle.layout.specs.declared.record.Token.{Token}
 use Rattle.bytecode.specs.Decode.{refusal, decodeOf}
 use Rattle.bytecode.specs.declared.answers.Refusal.{Refusal}
 use Rattle.bytecode.specs.declared.answers.Decoded.the-variants.{Token as Gives, Refused}
-use Rattle.bytecode.specs.Fields.{recordOf}
 use Rattle.bytecode.proofs.RoundTrip.{round-trip}
 use Rattle.layout.specs.Programs.{tokenAt}
 use Rattle.reader.specs.Reading.{readOf, placeAfter}
 use Rattle.reader.specs.Sequence.{placeAfterReads, placeOpened, GivesTokens}
 use Rattle.reader.specs.declared.answers.Opened.{Opened}
 use Rattle.reader.specs.declared.answers.Read.{Read}
-use Rattle.reader.proofs.AcceptedRun.{answer-run, reads-accepted}
-use Rattle.reader.proofs.ReadsInOrder.{stays-refused, refused-opening}
-use Rattle.consequences.specs.Reading.{ReadWhole, AcceptedReadWhole, RefusedForEver, ShortRefused}
-use Rattle.consequences.proofs.Bytes.{one-token}
+use Rattle.reader.proofs.AcceptedRun.{place-run, answer-run, holds-tokens, reads-accepted}
+use Rattle.reader.proofs.ReadsInOrder.{stays-refused, refused-opening, reads-in-order}
+use Rattle.consequences.specs.Reading.{AcceptedReadWhole, RefusedForEver, ShortRefused}
 
 -- ---- an accepted program
 
@@ -32,38 +30,47 @@ not-both : {t : Token} {f : Refusal} → Gives t ≡ Refused f → ⊥
 not-both e = let z : _≡_ {A = ℕ} 0 1 = cc in absurd (omega arith)
 
 module _ (bytes : List ℕ) (count : ℕ) (opened : Opened) (reads : ℕ → Read) (gives : GivesTokens bytes count opened reads) where
-  -- a read after the last token
-  past : (i : ℕ) → count ≤ i → reads i .answer ≡ Refused (refusal 24 count 0)
-  past i h =
-      let e : count + (i - count) ≡ i = omega arith in
-      subst (λ k. reads k .answer ≡ Refused (refusal 24 count 0)) e (gives .ended (i - count))
-
   inside : (i : ℕ) (t : Token) → reads i .answer ≡ Gives t → i < count
   inside i t e =
       elim (decLt i count) [
         | yes h ↦ h
-        | no h ↦ absurd (not-both (sym e ∙ past i (omega (arith, h))))
+        | no h ↦
+            let k : count + (i - count) ≡ i = omega (arith, h) in
+            absurd (not-both (sym e ∙ ap (λ j. reads j .answer) (sym k) ∙ gives .ended (i - count)))
       ]
 
-  read-whole : ReadWhole bytes count opened reads
-  read-whole = record {
-    ready = gives .ready;
-    counted = λ i. (λ h. (recordOf (tokenAt bytes i), gives .token i h), λ g. inside i (g .0) (g .1));
-    encoded = λ i t e a buffer l.
-        let h = inside i t e in
-        let q = one-token t (recordOf (tokenAt bytes i)) (sym e ∙ gives .token i h) in
-        let d : decodeOf (tokenAt bytes i) ≡ Gives t = gives .decodes i h ∙ sym (ap Gives q) in
-        round-trip .bytes (tokenAt bytes i) t a d buffer l .1;
-    refused = λ i f e.
-        elim (decLt i count) [
-          | yes h ↦ absurd (not-both (sym (gives .token i h) ∙ e))
-          | no h ↦ same-refusal f (refusal 24 count 0) (sym e ∙ past i (omega (arith, h)))
-        ];
-  }
+  -- a read that is refused is one after the last token
+  past : (i : ℕ) (f : Refusal) → reads i .answer ≡ Refused f → (j : ℕ) × (count + j ≡ i)
+  past i f e =
+      elim (decLt i count) [
+        | yes h ↦ absurd (not-both (sym (gives .token i h) ∙ e))
+        | no h ↦ (i - count, omega (arith, h))
+      ]
+
+  again : (i : ℕ) (t : Token) → reads i .answer ≡ Gives t → decodeOf (tokenAt bytes i) ≡ Gives t
+  again i t e =
+      let h = inside i t e in
+      gives .decodes i h ∙ sym (gives .token i h) ∙ e
 
 pub accepted-read-whole : AcceptedReadWhole
 accepted-read-whole edition lent r stage count opened reads c e run =
-    read-whole (now lent) count opened reads (reads-accepted edition lent opened reads run stage count (sym (c .answer) ∙ e))
+    let bytes = now lent in
+    let v = sym (c .answer) ∙ e in
+    let gives = reads-accepted edition lent opened reads run stage count v in
+    let order = reads-in-order bytes count _ (holds-tokens edition bytes stage count v) in
+    let place = place-run lent opened reads run in
+    record {
+      ready = gives .ready;
+      counted = λ i. (λ h. (_, gives .token i h), λ g. inside bytes count opened reads gives i (g .0) (g .1));
+      encoded = λ i t e a buffer l. round-trip .bytes (tokenAt bytes i) t a (again bytes count opened reads gives i t e) buffer l .1;
+      next = λ i h. place i ∙ order .place (suc i) (omega arith);
+      refused = λ i f e.
+          let (j, k) = past bytes count opened reads gives i f e in
+          let n : count + suc j ≡ suc i = omega (arith, k) in (
+            same-refusal f (refusal 24 count 0) (sym e ∙ ap (λ x. reads x .answer) (sym k) ∙ gives .ended j),
+            place i ∙ ap (placeOpened bytes) (sym n) ∙ order .lastPlace (suc j),
+          );
+    }
 
 -- ---- refusals
 

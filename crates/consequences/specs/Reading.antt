@@ -1,5 +1,5 @@
 -- What whoever opens a program and reads on concludes, of whose answers nothing is known but the promises of open and read.
-use Prim.Native.Nat.{ℕ, _+_, _<_, _≤_}
+use Prim.Native.Nat.{ℕ, suc, _+_, _<_, _≤_}
 use mathlib.Core.List.{List, _++_}
 use mathlib.Core.Logic.{_↔_}
 use mathlib.Core.Path.{_≡_}
@@ -24,13 +24,15 @@ use Rattle.reader.specs.declared.answers.Read.{Read}
 
 -- Of a program that check accepts, with this token count:
 -- The opening is not refused. Whoever counts the reads that give a token gets check's token count. Encoding what read i gives yields the
--- bytes of token i. And whatever is refused is refused by 24, at the token count.
+-- bytes of token i, and the reader then stands at the next token. Whatever is refused is refused by 24, at the token count, and the reader
+-- stands there.
 pub record ReadWhole (bytes : List ℕ) (count : ℕ) (opened : Opened) (reads : ℕ → Read) : Type 0 where
   pub ready : opened .answer ≡ Ready
   pub counted : (i : ℕ) → (i < count) ↔ ((t : Token) × (reads i .answer ≡ Gives t))
   pub encoded : (i : ℕ) (t : Token) → reads i .answer ≡ Gives t → T (areBytes (tokenAt bytes i)) → (buffer : List ℕ) → 24 ≤ length buffer
       → afterEncode t buffer ≡ tokenAt bytes i ++ drop 24 buffer
-  pub refused : (i : ℕ) (f : Refusal) → reads i .answer ≡ Refused f → f ≡ refusal 24 count 0
+  pub next : (i : ℕ) → i < count → reads i .reader .place ≡ suc i
+  pub refused : (i : ℕ) (f : Refusal) → reads i .answer ≡ Refused f → (f ≡ refusal 24 count 0) × (reads i .reader .place ≡ count)
 
 abbrev pub AcceptedReadWhole : Type 0
 AcceptedReadWhole =

@@ -24,7 +24,7 @@ module _ (lent : RefT (List ℕ)) (opened : Opened) (reads : ℕ → Read) (run 
   program-kept zero = run .first .program ∙ run .opens .program
   program-kept (suc i) = run .next i .program ∙ program-kept i
 
-  place-run : (i : ℕ) → reads i .reader .place ≡ placeOpened (now lent) (suc i)
+  pub place-run : (i : ℕ) → reads i .reader .place ≡ placeOpened (now lent) (suc i)
   place-run zero =
       run .first .place
       ∙ ap (λ l. placeAfter (now l) (opened .reader .place)) (run .opens .program)
@@ -49,7 +49,7 @@ module _ (edition : ℕ) (bytes : List ℕ) (stage count : ℕ) (e : verdict edi
   abbrev recordAt : ℕ → Token
   recordAt i = recordOf (tokenAt bytes i)
 
-  holds-tokens : HoldsTokens bytes count recordAt
+  pub holds-tokens : HoldsTokens bytes count recordAt
   holds-tokens =
       let whole = accepted-decodes edition bytes (program stage count) e in
       record { decode = whole .decode; end = omega (arith, whole .size) }
