@@ -1,9 +1,9 @@
 -- The flat form of a record, 29 bytes: opcode 4, destination 5, source 1 10, source 2 10, numbers little-endian.
-use Prim.Native.Nat.{ℕ, suc, _+_, _*_, _/_, _%_}
+use Prim.Native.Nat.{ℕ, _+_, _*_, _/_, _%_}
 use mathlib.Core.Bool.{Bool, false, cond, _&&_}
 use mathlib.Core.List.{List, [], _∷_, _++_}
 use lib.Dec.{ltb, leb}
-use lib.ListN.{length, getD, set}
+use lib.ListN.{length, getD}
 use Rattle.layout.specs.Layout.{wordAt, wordBytes}
 use Rattle.layout.specs.declared.record.Token.{Token}
 use Rattle.agal_c.specs.Values.{values, destinationValues, operandValues, destinationFrom, operandFrom}
@@ -20,15 +20,6 @@ abbrev pub operandBytes : Values → List ℕ
 operandBytes v =
     v .form ∷ v .number % 256 ∷ v .number / 256
     ∷ v .first ∷ v .second ∷ v .third ∷ v .fourth ∷ v .fifth ∷ v .sixth ∷ v .seventh ∷ []
-
--- a buffer with bytes stored from a place on: the first of them, and then those k further on
-abbrev storedAfter : List ℕ → ℕ → ℕ → List ℕ → List ℕ
-storedAfter buffer at k [] = buffer
-storedAfter buffer at k (b ∷ bytes) = storedAfter (set buffer (at + k) b) at (suc k) bytes
-
-abbrev pub withBytes : List ℕ → ℕ → List ℕ → List ℕ
-withBytes buffer at [] = buffer
-withBytes buffer at (b ∷ bytes) = storedAfter (set buffer at b) at 1 bytes
 
 abbrev pub flatBytes : ℕ → Values → Values → Values → List ℕ
 flatBytes opcode d a b = wordBytes opcode ++ destinationBytes d ++ operandBytes a ++ operandBytes b

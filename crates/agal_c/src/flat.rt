@@ -5,12 +5,13 @@ ghost use mathlib.Core.Path.{_≡_};
 ghost use mathlib.Core.Bool.{true, false, cond};
 ghost use mathlib.Core.List.{_++_};
 ghost use lib.ListN.{length, drop};
-ghost use Rattle.layout.specs.Layout.{wordBytes, sourceRows, definedBits, destinationBits, operandBits, isStray};
+ghost use Rattle.layout.specs.Layout.{sourceRows, definedBits, destinationBits, operandBits, isStray};
 ghost use Rattle.layout.specs.Records.{destinationOf, operandOf, tokenOf};
 ghost use Rattle.bytecode.specs.Decode.{isClean, decodeOf};
+ghost use Rattle.bytecode.specs.Stored.{withBytes};
 ghost use Rattle.agal_c.specs.Calls.{outrightFault, deliveryCode, delivered};
 ghost use Rattle.agal_c.specs.Values.{sourceValues, destinationValues, operandValues};
-ghost use Rattle.agal_c.specs.Flat.{destinationBytes, operandBytes, withBytes, flatOf, isFlat, valuesAt, tokenOfFlat};
+ghost use Rattle.agal_c.specs.Flat.{destinationBytes, operandBytes, flatOf, isFlat, valuesAt, tokenOfFlat};
 use crate::values;
 use crate::values::Values;
 use layout::fields::Fields;
@@ -61,7 +62,7 @@ fn put_token(shape: Shape, f: Fields, out: &mut [u8])
 {
     let shape1 = shape.source1;
     let shape2 = shape.source2;
-    put_word(out, 0, f.opcode as u64);
+    bytecode::put_word(out, 0, f.opcode as u64);
     put_destination(out, shape.destination, f.destination);
     put_operand(out, 9, shape1, f.source1);
     put_operand(out, 19, shape2, f.source2);
@@ -73,7 +74,7 @@ fn put_destination(out: &mut [u8], used: bool, field: u64)
     ensures { λ _. ⌜ now (out .exit) ≡ withBytes (now (out .entry)) 4 (destinationBytes (destinationValues (destinationOf used field))) ⌝ }
 {
     out[4] = used as u8;
-    put_word(out, 5, field);
+    bytecode::put_word(out, 5, field);
 }
 
 // An unused field is 0, and is written as a source is, whose values are then 0. Each arm stores its own bytes: stored where the arms meet,
@@ -103,20 +104,9 @@ fn put_source(out: &mut [u8], at: usize, form: u8, field: u64)
     ensures { λ _. ⌜ now (out .exit) ≡ withBytes (now (out .entry)) at (operandBytes (sourceValues form field)) ⌝ }
 {
     out[at] = form;
-    put_word(out, at + 1, field);
-    put_word(out, at + 5, field % 0x8000_0000_0000_0000 / 0x1_0000_0000);
+    bytecode::put_word(out, at + 1, field);
+    bytecode::put_word(out, at + 5, field % 0x8000_0000_0000_0000 / 0x1_0000_0000);
     out[at + 9] = 0;
-}
-
-// The low four bytes of a number, the lowest first. The compiler makes one store of the four, since all are bytes of one number.
-fn put_word(out: &mut [u8], at: usize, word: u64)
-    requires { ⌜ at + 4 ≤ length (now out) ⌝ }
-    ensures { λ _. ⌜ now (out .exit) ≡ withBytes (now (out .entry)) at (wordBytes word) ⌝ }
-{
-    out[at] = (word % 256) as u8;
-    out[at + 1] = (word / 256 % 256) as u8;
-    out[at + 2] = (word / 65536 % 256) as u8;
-    out[at + 3] = (word / 16777216 % 256) as u8;
 }
 
 fn put_values(out: &mut [u8], at: usize, v: Values)

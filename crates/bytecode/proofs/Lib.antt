@@ -6,4 +6,5 @@ pub mod RegisterAgain
 pub mod RoundTrip
 pub mod SamplerAgain
 pub mod SourceAgain
+pub mod Stored
 pub mod Words

@@ -1,9 +1,9 @@
 -- Document 01, "Layout": tokens of 24 bytes, opcode 4, destination 4, source 1 8, source 2 or sampler 8.
-use Prim.Native.Nat.{ℕ, _+_, _/_, _%_, _^_}
+use Prim.Native.Nat.{ℕ, _/_, _^_}
 use mathlib.Core.Bool.{cond}
 use mathlib.Core.List.{List, _++_}
 use lib.Dec.{ltb}
-use lib.ListN.{length, set}
+use lib.ListN.{length}
 use Rattle.layout.specs.Layout.{wordAt, longAt, wordBytes}
 use Rattle.layout.specs.Opcodes.{shapeOf}
 use Rattle.layout.specs.Records.{tokenOf}
@@ -28,7 +28,3 @@ bytesOf f =
     ++ wordBytes (f .destination)
     ++ wordBytes (f .source1) ++ wordBytes (f .source1 / 2 ^ 32)
     ++ wordBytes (f .source2) ++ wordBytes (f .source2 / 2 ^ 32)
-
--- a buffer with a word's bytes stored from a place on
-abbrev pub withWord : List ℕ → ℕ → ℕ → List ℕ
-withWord l at w = set (set (set (set l at (w % 256)) (at + 1) (w / 256 % 256)) (at + 2) (w / 65536 % 256)) (at + 3) (w / 16777216 % 256)

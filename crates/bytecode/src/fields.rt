@@ -4,7 +4,8 @@ ghost use Prim.Native.Nat.{_+_, _*_, _≤_, _<_, _^_};
 ghost use mathlib.Core.List.{_++_};
 ghost use lib.ListN.{length, drop};
 ghost use Rattle.layout.specs.Layout.{wordAt, longAt};
-ghost use Rattle.bytecode.specs.Fields.{fieldsOf, fieldsIn, bytesOf, withWord};
+ghost use Rattle.bytecode.specs.Fields.{fieldsOf, fieldsIn, bytesOf};
+use crate::stores;
 use layout::fields::Fields;
 
 // The fields of a token, from its bytes; all 0 where there are fewer than 24.
@@ -61,21 +62,10 @@ pub(crate) fn write_fields(f: Fields, out: &mut [u8])
     let destination = f.destination;
     let source1 = f.source1;
     let source2 = f.source2;
-    write_word(out, 0, opcode);
-    write_word(out, 4, destination);
-    write_word(out, 8, source1);
-    write_word(out, 12, source1 / 0x1_0000_0000);
-    write_word(out, 16, source2);
-    write_word(out, 20, source2 / 0x1_0000_0000);
-}
-
-// The low four bytes of a number, the lowest first.
-fn write_word(out: &mut [u8], at: usize, word: u64)
-    requires { ⌜ at + 4 ≤ length (now out) ⌝ }
-    ensures { λ _. ⌜ now (out .exit) ≡ withWord (now (out .entry)) at word ⌝ }
-{
-    out[at] = (word % 256) as u8;
-    out[at + 1] = (word / 256 % 256) as u8;
-    out[at + 2] = (word / 65536 % 256) as u8;
-    out[at + 3] = (word / 16777216 % 256) as u8;
+    stores::put_word(out, 0, opcode);
+    stores::put_word(out, 4, destination);
+    stores::put_word(out, 8, source1);
+    stores::put_word(out, 12, source1 / 0x1_0000_0000);
+    stores::put_word(out, 16, source2);
+    stores::put_word(out, 20, source2 / 0x1_0000_0000);
 }

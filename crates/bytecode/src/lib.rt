@@ -7,6 +7,7 @@ mod fields;
 mod fits;
 mod pack;
 mod refusals;
+mod stores;
 
 pub use biases::bias;
 pub use decoding::decode;
@@ -17,3 +18,4 @@ pub use fields::fields_of;
 pub use fits::encodable;
 pub use pack::unsigned_byte;
 pub use refusals::refusal;
+pub use stores::put_word;

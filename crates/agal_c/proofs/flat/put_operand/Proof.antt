@@ -9,7 +9,8 @@ use borrow.Author.Needs.{needs}
 use Rattle.layout.specs.Records.{operandOf}
 use Rattle.layout.specs.declared.opcodes.OperandShape.{OperandShape}
 use Rattle.agal_c.specs.Values.{operandValues}
-use Rattle.agal_c.specs.Flat.{operandBytes, withBytes}
+use Rattle.bytecode.specs.Stored.{withBytes}
+use Rattle.agal_c.specs.Flat.{operandBytes}
 use Rattle.agal_c.specs.declared.values.Values.{Values}
 use Rattle.agal_c.proofs.FieldBytes.{unused-clean, unused-values, by-form}
 use Rattle.agal_c.proofs.flat.put_operand.Statement.{statement}

@@ -3,6 +3,7 @@
 use Prim.Native.Nat.{ℕ, _≤_}
 use mathlib.Core.List.{List, _++_}
 use mathlib.Core.Path.{_≡_, _∙_, ap}
+use native.Mathlib.Omega.{arith}
 use lib.ListN.{length, drop}
 use lib.Seq.{sets-eq}
 use denote.Ref.{now}
@@ -10,8 +11,10 @@ use borrow.Author.Needs.{needs}
 use Rattle.layout.specs.Layout.{wordBytes}
 use Rattle.layout.specs.Records.{tokenOf}
 use Rattle.bytecode.proofs.DecodeLaws.{clean-by}
+use Rattle.bytecode.proofs.Stored.{word-stored}
 use Rattle.agal_c.specs.Values.{destinationValues, operandValues}
-use Rattle.agal_c.specs.Flat.{destinationBytes, operandBytes, withBytes, flatBytes, flatOf}
+use Rattle.bytecode.specs.Stored.{withBytes}
+use Rattle.agal_c.specs.Flat.{destinationBytes, operandBytes, flatBytes, flatOf}
 use Rattle.agal_c.specs.declared.values.Values.{Values}
 use Rattle.agal_c.proofs.flat.put_token.Statement.{statement}
 use Rattle.agal_c.proofs.flat.put_token.Tie as tie
@@ -56,7 +59,7 @@ returns c =
     let a = c .before .before .before .before .before .before .before .before .before .before .before .before .before .before .before .before .before .before in
     let t = tokenOf (a .args .shape) (a .args .f) in
     together _ (destinationValues (t .destination)) (operandValues (t .source1)) (operandValues (t .source2)) (now (a .args .out)) _ _ _ _ (a .pre .0)
-    (c .before .before .before .before .before .before .before .before .before .before .before .before .before .before .put-word .ensures)
+    (c .before .before .before .before .before .before .before .before .before .before .before .before .before .before .put-word .ensures ∙ word-stored _ 0 _ (omega (arith, a .pre .0)))
     (c .before .before .before .before .before .before .before .before .before .before .put-destination .ensures)
     (c .before .before .before .before .before .before .put-operand .ensures)
     (c .before .before .put-operand2 .ensures)

@@ -1,10 +1,26 @@
 -- `put_word` meets its contract.
 -- Assumes nothing.
+use mathlib.Core.Path.{sym}
 use native.Mathlib.Omega.{arith}
 use lib.ListN.{length-set}
+use denote.Ref.{now}
 use borrow.Author.Needs.{needs}
-use Rattle.agal_c.proofs.flat.put_word.Statement.{statement}
-use Rattle.agal_c.proofs.flat.put_word.Tie as tie
+use Rattle.bytecode.proofs.Stored.{word-stored, word-without-room}
+use Rattle.bytecode.proofs.stores.put_word.Statement.{statement}
+use Rattle.bytecode.proofs.stores.put_word.Tie as tie
+
+returns : tie.Need-returns
+returns c =
+    let a = c .before in
+    sym (word-without-room (now (a .args .out)) (a .args .at) (a .args .word) (omega (arith, c .if1 .taken)))
+
+sub-if2 : tie.Need-sub-if2
+sub-if2 c = search needs
+
+returns-2 : tie.Need-returns-2
+returns-2 c =
+    let a = c .before .before in
+    sym (word-without-room (now (a .args .out)) (a .args .at) (a .args .word) (omega (arith, c .if2 .taken, c .before .if1 .left)))
 
 cast-out : tie.Need-cast-out
 cast-out c = search needs
@@ -42,13 +58,18 @@ slice-write-out-4 c = simp length-set (omega arith)
 same-length : tie.Need-same-length
 same-length c = search needs
 
-returns : tie.Need-returns
-returns c = search needs
+returns-3 : tie.Need-returns-3
+returns-3 c =
+    let a = c .before .before in
+    sym (word-stored (now (a .args .out)) (a .args .at) (a .args .word) (omega (arith, c .if2 .left, c .before .if1 .left)))
 
 pub put-word-spec : {M : Type 1} → statement M
 put-word-spec =
     tie.close
     (tie.spec
+    returns
+    sub-if2
+    returns-2
     cast-out
     slice-write-out
     cast-out-2
@@ -61,4 +82,4 @@ put-word-spec =
     add-out-3
     slice-write-out-4
     same-length
-    returns)
+    returns-3)
