@@ -6,8 +6,8 @@ use crate::flat;
 use crate::hex;
 use crate::lines;
 use crate::print;
+use crate::print::Form;
 use crate::programs;
-use crate::swizzles;
 
 pub fn run(text: &[u8]) {
     let mut at = 0;
@@ -51,7 +51,7 @@ fn case(line: &[u8]) {
         b'l' => lines::listed(&bytes[..n]),
         b'c' => programs::checked(&bytes[..n]),
         b'r' => programs::repeated(&mut bytes, n),
-        b's' => swizzles::named(&bytes[..n]),
+        b's' => print::bytes(&bytes[..n], Form::Components),
         _ => print::text(b"no such case\n"),
     }
 }

@@ -1,5 +1,6 @@
 // Cases of decode, encode and bias.
 use crate::print;
+use crate::print::Form;
 use bytecode::answers::Decoded;
 use bytecode::answers::Encoded;
 use layout::record::Destination;
@@ -124,5 +125,5 @@ fn encoded_into(t: Token, out: &mut [u8]) {
         Encoded::Refused(r) => print::refusal(r),
         Encoded::Written => print::text(b"written\n"),
     }
-    print::bytes(out);
+    print::bytes(out, Form::Hexadecimal);
 }

@@ -7,7 +7,6 @@ mod hex;
 mod lines;
 mod print;
 mod programs;
-mod swizzles;
 
 fn main() {
     let mut text = [0u8; 524288];

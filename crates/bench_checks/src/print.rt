@@ -29,12 +29,28 @@ pub fn refusal(r: Refusal) {
     end_line();
 }
 
-// Bytes in hexadecimal, and the line's end.
-pub fn bytes(s: &[u8]) {
+// How each byte of a line is printed.
+pub enum Form {
+    Hexadecimal,
+    // The set of components that the byte names as a swizzle.
+    Components,
+}
+
+// Bytes, one after the other, and the line's end.
+pub fn bytes(s: &[u8], form: Form) {
     let mut i = 0;
     while i < s.len() {
-        io::print_hex(STDOUT_FILENO, s[i] as u64, 2);
+        byte(s[i], form);
         i += 1;
     }
     end_line();
+}
+
+fn byte(value: u8, form: Form) {
+    match form {
+        Form::Hexadecimal => {
+            io::print_hex(STDOUT_FILENO, value as u64, 2);
+        }
+        Form::Components => number(layout::components(value) as u64),
+    }
 }

@@ -89,13 +89,13 @@ repeated-requires c κs = search needs
 array-share-prefix-bytes-5 : tie.Need-array-share-prefix-bytes-5
 array-share-prefix-bytes-5 c = search needs
 
-slice-aggregate-named : tie.Need-slice-aggregate-named
-slice-aggregate-named c =
+slice-aggregate-bytes : tie.Need-slice-aggregate-bytes
+slice-aggregate-bytes c =
     let r = c .before .before .before .read in
     sym (length-take-le (r .result) (r .last .1 .0) (r .ensures))
 
-named-requires : tie.Need-named-requires
-named-requires c κs = search needs
+bytes-requires : tie.Need-bytes-requires
+bytes-requires c κs = search needs
 
 slice-aggregate-text : tie.Need-slice-aggregate-text
 slice-aggregate-text c = search needs
@@ -153,8 +153,8 @@ case-spec =
     slice-aggregate-repeated
     repeated-requires
     array-share-prefix-bytes-5
-    slice-aggregate-named
-    named-requires
+    slice-aggregate-bytes
+    bytes-requires
     slice-aggregate-text
     text-requires-2
     returns-3
