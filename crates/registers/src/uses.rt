@@ -1,4 +1,4 @@
-// Which kinds of registers a program reads as plain sources, and which it writes. A whole program has one stage, so that is asked first.
+// Which kinds of registers a program reads as direct sources, and which it writes. A whole program has one stage, so that is asked first.
 ghost use mathlib.Core.Path.{_≡_};
 ghost use Rattle.registers.specs.Uses.{isReadable, isWritable};
 

@@ -1,7 +1,7 @@
 -- The state that the code keeps stands for the state of the check over paths.
 -- Assumes nothing.
 use Prim.Native.Nat.{ℕ, zero, suc, _≤_, _<_}
-use mathlib.Core.Bool.{true, false, not, _||_}
+use mathlib.Core.Bool.{true, false, not}
 use mathlib.Core.List.{List, [], _∷_}
 use mathlib.Core.Path.{_≡_, refl, ap, ap₂}
 use native.Mathlib.Omega.{arith}
@@ -10,7 +10,7 @@ use lib.ListN.{length}
 use borrow.Author.Tests.{lt-ltb, le-ltb}
 use Rattle.layout.specs.declared.opcodes.Flow as code
 use Rattle.layout.specs.declared.opcodes.Flow.the-variants.{Plain, Opener, Els, Eif}
-use Rattle.paths.specs.Paths.{plain, opener, els, eif}
+use Rattle.paths.specs.Paths.{opener, els, eif}
 use Rattle.paths.specs.Nesting as nesting
 use Rattle.paths.specs.Nesting.{misplaced}
 use Rattle.paths.specs.Unwritten.{ComponentSet}

@@ -1,13 +1,12 @@
 -- The next state of the code stands for the next state of the check over paths.
 -- Assumes nothing.
-use Prim.Native.Nat.{ℕ, zero, suc, _+_, _%_, _≤_, _<_}
-use mathlib.Core.Bool.{Bool, true, false, not, _||_, or-false, true≢false}
+use Prim.Native.Nat.{ℕ, zero, suc, _+_, _%_, _<_}
+use mathlib.Core.Bool.{true, false, not, _||_, or-false, true≢false}
 use mathlib.Core.List.{_∷_}
-use mathlib.Core.Path.{_≡_, refl, _∙_, sym, ap, ap₂, subst⁻¹, fun-ext}
-use native.Mathlib.Numerals.{add-one}
+use mathlib.Core.Path.{_≡_, refl, _∙_, sym, ap, ap₂, fun-ext}
 use native.Mathlib.Omega.{arith}
 use lib.Dec.{eqb}
-use lib.ListN.{length, getD, set, length-set}
+use lib.ListN.{getD, set, length-set}
 use lib.Seq.{getD-set-same, getD-set-other}
 use borrow.Author.Tests.{leb-false}
 use Rattle.layout.specs.declared.opcodes.Flow as code
@@ -24,10 +23,10 @@ use Rattle.paths.specs.computed.Check as check
 use Rattle.paths.specs.computed.Check.{currentAt, keptAt, keptAfter}
 use Rattle.components.specs.declared.written.Written.{Written}
 use Rattle.components.proofs.WrittenLaws.{in-join, in-written}
-use Rattle.verifier.specs.computed.State.{branch, branchAt, slotOf, slotAround, isMisplaced, withCurrent, metState, openedState, joinedState, partedState, writtenBy, wroteState}
+use Rattle.verifier.specs.computed.State.{branch, branchAt, slotOf, slotAround, isMisplaced, withCurrent, metState, partedState, writtenBy, wroteState}
 use Rattle.verifier.specs.declared.state.Branch.{Branch}
 use Rattle.verifier.specs.declared.state.State.{State}
-use Rattle.verifier.proofs.Abstract.{branchOf, keptOf, below, openIn, below-alike, keptIn, abstractOf, Valid, none-open, some-open}
+use Rattle.verifier.proofs.Abstract.{branchOf, keptOf, below, openIn, below-alike, keptIn, abstractOf, Valid, none-open}
 
 -- ---- the write
 

@@ -29,7 +29,7 @@ use Rattle.verifier.specs.computed.Steps.{stepsOver, finishOf, judgedBy}
 use Rattle.verifier.specs.Verdict.{program, answerOf, opensUnlisted}
 use Rattle.verifier.specs.declared.answers.Checked.the-variants.{Accepted, Refused}
 use Rattle.verifier.specs.declared.state.State.{State}
-use Rattle.verifier.proofs.Abstract.{abstractOf, branchesIn, Valid, valid-start}
+use Rattle.verifier.proofs.Abstract.{abstractOf, Valid, valid-start}
 use Rattle.verifier.proofs.StepLaw.{tells}
 use Rattle.verifier.proofs.TokenLaw.{steps}
 
