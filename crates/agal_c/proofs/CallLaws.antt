@@ -12,8 +12,9 @@ use Rattle.layout.specs.Opcodes.{shapeOf}
 use Rattle.layout.specs.Records.{tokenOf}
 use Rattle.layout.specs.declared.opcodes.Shape.{Shape}
 use Rattle.layout.specs.declared.fields.Fields.{Fields}
-use Rattle.bytecode.specs.Fields.{fieldsOf, fieldsIn}
-use Rattle.bytecode.specs.Decode.{refusal, noRefusal, lowestPart, unusedPart, undefinedPart, isClean, tokenFault, decodeFault, decodeOf}
+use Rattle.bytecode.specs.Fields.{fieldsOf}
+use Rattle.bytecode.specs.computed.CleanFields.{fieldsIn, isClean}
+use Rattle.bytecode.specs.Decode.{refusal, noRefusal, lowestPart, unusedPart, undefinedPart, tokenFault, decodeFault, decodeOf}
 use Rattle.bytecode.specs.Encode.{Encodes}
 use Rattle.layout.specs.declared.record.Token.{Token}
 use Rattle.bytecode.specs.declared.answers.Refusal.{Refusal}

@@ -12,7 +12,8 @@ use Rattle.layout.specs.Opcodes.{shapeOf}
 use Rattle.bytecode.specs.Fields.{fieldsOf}
 use Rattle.layout.specs.Layout.{destinationBits, operandBits, isStray}
 use Rattle.layout.specs.Records.{tokenOf}
-use Rattle.bytecode.specs.Decode.{refusal, noRefusal, lowestPart, unusedPart, undefinedPart, isClean, tokenFault, decodeFault, decodeOf, Decodes}
+use Rattle.bytecode.specs.Decode.{refusal, noRefusal, lowestPart, unusedPart, undefinedPart, tokenFault, decodeFault, decodeOf, Decodes}
+use Rattle.bytecode.specs.computed.CleanFields.{isClean}
 use Rattle.layout.specs.declared.opcodes.Shape.{Shape}
 use Rattle.layout.specs.declared.fields.Fields.{Fields}
 use Rattle.layout.specs.declared.record.Token.{Token}

@@ -7,7 +7,8 @@ use lib.Dec.{lit<}
 use Rattle.layout.specs.Opcodes.{shapeOf}
 use Rattle.layout.specs.Layout.{destinationBits, operandBits, isStray}
 use Rattle.layout.specs.Records.{destinationOf, operandOf}
-use Rattle.bytecode.specs.Encode.{destinationFits, DestinationPlaced, destinationField, operandFits, OperandPlaced, operandField, isEncodable}
+use Rattle.bytecode.specs.Encode.{destinationFits, destinationField, operandFits, operandField, isEncodable}
+use Rattle.bytecode.specs.computed.Placed.{DestinationPlaced, OperandPlaced}
 use Rattle.layout.specs.declared.opcodes.OperandShape.{OperandShape}
 use Rattle.layout.specs.declared.opcodes.OperandShape.the-variants.{Unused as NoField, Source as SourceField, Sampler as SamplerField}
 use Rattle.layout.specs.declared.record.Destination.{Destination}

@@ -12,7 +12,8 @@ use borrow.Author.Tests.{lt-ltb, le-ltb, ltb-true}
 use Rattle.layout.specs.Layout as layout
 use Rattle.layout.specs.Layout.{valueOf, definedBits, samplerRows, isStray}
 use Rattle.layout.specs.Records.{signed, samplerOf}
-use Rattle.bytecode.specs.Encode.{unsigned, isSignedByte, SamplerHigh, samplerFits, samplerField}
+use Rattle.bytecode.specs.Encode.{unsigned, isSignedByte, samplerFits, samplerField}
+use Rattle.bytecode.specs.computed.Placed.{SamplerHigh}
 use Rattle.layout.specs.declared.record.Sampler.{Sampler}
 use Rattle.laws.proofs.Every.{below, both-left, both-right, is-true, left, right}
 use Rattle.layout.proofs.Rows.{Rising, Fit, pack, values-again}

@@ -11,7 +11,8 @@ use borrow.Author.Tests.{lt-ltb, ltb-true, eq-eqb, ne-eqb, eqb-true, eqb-false}
 use Rattle.layout.specs.Layout as layout
 use Rattle.layout.specs.Layout.{valueOf, definedBits, sourceRows, isStray}
 use Rattle.layout.specs.Records.{directOf, indexedOf, sourceOf}
-use Rattle.bytecode.specs.Encode.{SourceHigh, sourceFits, sourceField, operandFits, operandField}
+use Rattle.bytecode.specs.Encode.{sourceFits, sourceField, operandFits, operandField}
+use Rattle.bytecode.specs.computed.Placed.{SourceHigh}
 use Rattle.layout.specs.declared.opcodes.OperandShape.the-variants.{Source as SourceField}
 use Rattle.layout.specs.declared.record.DirectSource.{DirectSource}
 use Rattle.layout.specs.declared.record.IndexedSource.{IndexedSource}

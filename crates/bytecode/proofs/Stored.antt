@@ -9,7 +9,7 @@ use lib.Dec.{leb}
 use lib.ListN.{length, length-set}
 use borrow.Author.Tests.{le-leb, lt-leb}
 use Rattle.layout.specs.Layout.{wordBytes}
-use Rattle.bytecode.specs.Stored.{withBytes, afterWord}
+use Rattle.bytecode.specs.computed.Stored.{withBytes, afterWord}
 
 pub word-stored : (buffer : List ℕ) (at word : ℕ) → at + 4 ≤ length buffer → afterWord buffer at word ≡ withBytes buffer at (wordBytes word)
 unfolding afterWord

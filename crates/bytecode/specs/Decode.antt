@@ -1,6 +1,6 @@
 -- Document 01: the faults that decode gives, 24, then 9, 12, 13, and the record where there is none.
 use Prim.Native.Nat.{ℕ}
-use mathlib.Core.Bool.{Bool, not, cond, _&&_, _||_}
+use mathlib.Core.Bool.{Bool, not, cond, _&&_}
 use mathlib.Core.List.{List}
 use mathlib.Core.Path.{_≡_}
 use lib.Dec.{eqb}
@@ -60,14 +60,6 @@ tokenFault shape f =
 -- 24 comes first
 unfoldable pub decodeFault : List ℕ → Refusal
 decodeFault s = cond (eqb (length s) 24) (tokenFault (shapeOf (fieldsOf s .opcode)) (fieldsOf s)) (refusal 24 0 0)
-
--- no fault of fields: the opcode is listed, and no field has a bit that is not among its defined ones
-unfoldable pub isClean : Shape → Fields → Bool
-isClean shape f =
-    shape .listed && not
-    (isStray (destinationBits (shape .destination)) (f .destination)
-    || isStray (operandBits (shape .source1)) (f .source1)
-    || isStray (operandBits (shape .source2)) (f .source2))
 
 -- what decode answers
 unfoldable pub decodeOf : List ℕ → Decoded

@@ -1,5 +1,5 @@
 -- Document 01: the fields that a record makes, and the refusals of encode, 25 and then 23.
-use Prim.Native.Nat.{ℕ, _+_, _-_, _<_}
+use Prim.Native.Nat.{ℕ, _+_, _-_}
 use mathlib.Core.Bool.{Bool, true, false, not, cond, _&&_}
 use mathlib.Core.List.{List, _++_}
 use mathlib.Core.Path.{_≡_}
@@ -39,11 +39,6 @@ abbrev pub destinationFits : Bool → Destination → Bool
 destinationFits used NoDestination = not used
 destinationFits used (Masked r) = used && registerFits r
 
--- the values whose places are narrower than their types fit them
-abbrev pub DestinationPlaced : Destination → Type 0
-DestinationPlaced NoDestination = Unit {0}
-DestinationPlaced (Masked r) = (r .mask < 16) × (r .kind < 16)
-
 abbrev pub destinationField : Destination → ℕ
 destinationField NoDestination = 0
 destinationField (Masked r) = registerField r
@@ -65,13 +60,6 @@ sourceHigh t i q d =
 
 unfoldable pub sourceField : ℕ → ℕ → ℕ → ℕ → ℕ → ℕ → ℕ → ℕ
 sourceField n o s t i q d = sourceLow n o s + sourceHigh t i q d
-
--- the values from bit 32 on fit
-pub record SourceHigh (t i q d : ℕ) : Type 0 where
-  pub kind : t < 16
-  pub index-kind : i < 16
-  pub component : q < 4
-  pub indirect : d < 2
 
 -- ---- a sampler
 
@@ -104,14 +92,6 @@ samplerField s =
     samplerLow (s .number) (unsigned (s .bias)) (s .kind)
     + samplerHigh (s .dimension) (s .special) (s .wrap) (s .mipmap) (s .filter)
 
--- the values from bit 44 on fit
-pub record SamplerHigh (d s w m f : ℕ) : Type 0 where
-  pub dimension : d < 16
-  pub special : s < 16
-  pub wrap : w < 16
-  pub mipmap : m < 16
-  pub filter : f < 16
-
 -- ---- an operand
 
 abbrev pub operandFits : OperandShape → Operand → Bool
@@ -129,13 +109,6 @@ operandFits SamplerField NoOperand = false
 operandFits SamplerField (Direct s) = false
 operandFits SamplerField (Indexed s) = false
 operandFits SamplerField (Sampled s) = samplerFits s
-
--- the same of an operand
-abbrev pub OperandPlaced : Operand → Type 0
-OperandPlaced NoOperand = Unit {0}
-OperandPlaced (Direct s) = SourceHigh (s .kind) (s .«index_kind») (s .component) 0
-OperandPlaced (Indexed s) = SourceHigh (s .kind) (s .«index_kind») (s .component) 1
-OperandPlaced (Sampled s) = (s .kind < 16) × SamplerHigh (s .dimension) (s .special) (s .wrap) (s .mipmap) (s .filter)
 
 abbrev pub operandField : Operand → ℕ
 operandField NoOperand = 0

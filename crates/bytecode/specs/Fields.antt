@@ -1,9 +1,6 @@
 -- Document 01, "Layout": tokens of 24 bytes, opcode 4, destination 4, source 1 8, source 2 or sampler 8.
 use Prim.Native.Nat.{ℕ, _/_, _^_}
-use mathlib.Core.Bool.{cond}
 use mathlib.Core.List.{List, _++_}
-use lib.Dec.{ltb}
-use lib.ListN.{length}
 use Rattle.layout.specs.Layout.{wordAt, longAt, wordBytes}
 use Rattle.layout.specs.Opcodes.{shapeOf}
 use Rattle.layout.specs.Records.{tokenOf}
@@ -16,10 +13,6 @@ fieldsOf s = record { opcode = wordAt s 0; destination = wordAt s 4; source1 = l
 -- the record of a token's bytes, whatever its faults
 abbrev pub recordOf : List ℕ → Token
 recordOf s = tokenOf (shapeOf (fieldsOf s .opcode)) (fieldsOf s)
-
--- the fields of 24 bytes or more; all 0 where there are fewer
-unfoldable pub fieldsIn : List ℕ → Fields
-fieldsIn s = cond (ltb (length s) 24) (record { opcode = 0; destination = 0; source1 = 0; source2 = 0 }) (fieldsOf s)
 
 -- the bytes of the four fields
 abbrev pub bytesOf : Fields → List ℕ

@@ -4,4 +4,4 @@ pub mod Encode
 pub mod Fields
 pub mod Numbers
 pub mod RoundTrip
-pub mod Stored
+pub mod computed

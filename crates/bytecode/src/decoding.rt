@@ -1,6 +1,7 @@
 // Decode: a record from 24 bytes, or the first fault.
 ghost use mathlib.Core.Path.{_≡_};
-ghost use Rattle.bytecode.specs.Decode.{Decodes, isClean, tokenFault, unusedNotZero, undefinedBitSet, unusedPart, undefinedPart, lowestPart};
+ghost use Rattle.bytecode.specs.Decode.{Decodes, tokenFault, unusedNotZero, undefinedBitSet, unusedPart, undefinedPart, lowestPart};
+ghost use Rattle.bytecode.specs.computed.CleanFields.{isClean};
 ghost use Rattle.layout.specs.Records.{tokenOf};
 use crate::answers::Decoded;
 use crate::answers::Refusal;

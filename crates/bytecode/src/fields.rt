@@ -4,7 +4,8 @@ ghost use Prim.Native.Nat.{_+_, _*_, _≤_, _<_, _^_};
 ghost use mathlib.Core.List.{_++_};
 ghost use lib.ListN.{length, drop};
 ghost use Rattle.layout.specs.Layout.{wordAt, longAt};
-ghost use Rattle.bytecode.specs.Fields.{fieldsOf, fieldsIn, bytesOf};
+ghost use Rattle.bytecode.specs.Fields.{fieldsOf, bytesOf};
+ghost use Rattle.bytecode.specs.computed.CleanFields.{fieldsIn};
 use crate::stores;
 use layout::fields::Fields;
 

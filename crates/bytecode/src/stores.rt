@@ -1,6 +1,6 @@
 // A word written to a buffer.
 ghost use mathlib.Core.Path.{_≡_};
-ghost use Rattle.bytecode.specs.Stored.{afterWord};
+ghost use Rattle.bytecode.specs.computed.Stored.{afterWord};
 
 // Writes the low four bytes of a number from a place on, the lowest first; nothing where they don't all fit. The compiler makes one store
 // of the four, since all are bytes of one number.

@@ -7,7 +7,7 @@ use mathlib.Core.Path.{_≡_, refl, _∙_, ap, sym, subst}
 use lib.Dec.{eqb}
 use borrow.Author.Tests.{ne-eqb, eqb-true, eqb-false, not-true}
 use Rattle.laws.proofs.Every.{left, right, neither}
-use Rattle.bytecode.specs.Decode.{isClean}
+use Rattle.bytecode.specs.computed.CleanFields.{isClean}
 use Rattle.bytecode.proofs.DecodeLaws.{Clean, is-clean}
 use Rattle.layout.specs.Layout.{isStray}
 use Rattle.layout.specs.Opcodes.{isIn, kil, tex, openers, bareOpcodes, isFragmentOnly, isMatrix, isOpener, isBranch, shapeOf, sourceShape, flowOf}

@@ -5,7 +5,8 @@ use mathlib.Core.Bool.{Bool, true}
 use mathlib.Core.Option.{Option, none, some}
 use mathlib.Core.Path.{_≡_, refl, _∙_, ap, sym, subst}
 use native.Mathlib.Omega.{arith}
-use Rattle.bytecode.specs.Decode.{noRefusal, isClean}
+use Rattle.bytecode.specs.Decode.{noRefusal}
+use Rattle.bytecode.specs.computed.CleanFields.{isClean}
 use Rattle.bytecode.specs.Fields.{fieldsOf}
 use Rattle.bytecode.proofs.DecodeLaws.{clean-by, clean-none, no-faults}
 use Rattle.layout.specs.Opcodes.{shapeOf}

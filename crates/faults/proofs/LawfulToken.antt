@@ -7,7 +7,8 @@ use native.Mathlib.Omega.{arith}
 use lib.Dec.{eqb}
 use borrow.Author.Tests.{ne-eqb, eqb-true, not-true}
 use Rattle.laws.proofs.Every.{left, right}
-use Rattle.bytecode.specs.Decode.{noRefusal, isClean}
+use Rattle.bytecode.specs.Decode.{noRefusal}
+use Rattle.bytecode.specs.computed.CleanFields.{isClean}
 use Rattle.bytecode.proofs.DecodeLaws.{Clean, is-clean}
 use Rattle.layout.specs.Layout as layout
 use Rattle.layout.specs.Layout.{valueOf, isStray, operandBits}

@@ -6,7 +6,8 @@ use mathlib.Core.List.{List}
 use mathlib.Core.Path.{_≡_, refl, _∙_, sym, ap, ap₂}
 use native.Mathlib.Omega.{arith}
 use borrow.Author.Tests.{eq-eqb}
-use Rattle.bytecode.specs.Decode.{noRefusal, isClean}
+use Rattle.bytecode.specs.Decode.{noRefusal}
+use Rattle.bytecode.specs.computed.CleanFields.{isClean}
 use Rattle.bytecode.specs.Fields.{fieldsOf}
 use Rattle.layout.specs.Opcodes.{shapeOf, flowOf}
 use Rattle.layout.specs.Records.{registerOf, tokenOf}

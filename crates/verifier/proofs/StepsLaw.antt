@@ -15,8 +15,9 @@ use Rattle.paths.specs.Unwritten.{nothing}
 use Rattle.components.specs.computed.Written.{componentSet, halfOf}
 use Rattle.paths.specs.Faults.{refused}
 use Rattle.paths.specs.computed.Check.{start, checkFrom, verdictOf}
-use Rattle.bytecode.specs.Decode.{refusal, isClean, tokenFault}
-use Rattle.bytecode.specs.Fields.{fieldsOf, fieldsIn}
+use Rattle.bytecode.specs.Decode.{refusal, tokenFault}
+use Rattle.bytecode.specs.computed.CleanFields.{isClean, fieldsIn}
+use Rattle.bytecode.specs.Fields.{fieldsOf}
 use Rattle.layout.specs.Opcodes.{shapeOf}
 use Rattle.layout.specs.Programs.{tokenAt, stageOf, tokenCount}
 use Rattle.faults.specs.computed.Faults.{undecodedFault}

@@ -9,7 +9,8 @@ use native.Mathlib.Omega.{arith}
 use lib.Dec.{eqb, ltb}
 use lib.ListN.{length}
 use borrow.Author.Tests.{eq-eqb, ne-eqb, eqb-true}
-use Rattle.bytecode.specs.Decode.{refusal, isClean, tokenFault, decodeOf}
+use Rattle.bytecode.specs.Decode.{refusal, tokenFault, decodeOf}
+use Rattle.bytecode.specs.computed.CleanFields.{isClean}
 use Rattle.bytecode.specs.Fields.{fieldsOf, recordOf}
 use Rattle.bytecode.specs.declared.answers.Refusal.{Refusal}
 use Rattle.bytecode.specs.declared.answers.Decoded.the-variants.{Token as Accepted, Refused}

@@ -2,7 +2,8 @@
 use Prim.Native.Nat.{ℕ}
 use mathlib.Core.Bool.{cond}
 use lib.Dec.{eqb}
-use Rattle.bytecode.specs.Decode.{refusal, noRefusal, isClean, tokenFault}
+use Rattle.bytecode.specs.Decode.{refusal, noRefusal, tokenFault}
+use Rattle.bytecode.specs.computed.CleanFields.{isClean}
 use Rattle.bytecode.specs.declared.answers.Refusal.{Refusal}
 use Rattle.layout.specs.Opcodes.{shapeOf, flowOf}
 use Rattle.layout.specs.Records.{tokenOf}

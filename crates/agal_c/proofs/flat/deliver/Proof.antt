@@ -6,7 +6,8 @@ use denote.Ref.{now}
 use borrow.Author.Needs.{needs}
 use borrow.Author.Tests.{not-true, not-false}
 use Rattle.layout.specs.Records.{tokenOf}
-use Rattle.bytecode.specs.Decode.{isClean, decodeOf}
+use Rattle.bytecode.specs.Decode.{decodeOf}
+use Rattle.bytecode.specs.computed.CleanFields.{isClean}
 use Rattle.bytecode.specs.declared.answers.Decoded.the-variants.{Token as Read, Refused as NotRead}
 use Rattle.agal_c.proofs.CallLaws.{faulty, fine, not-read, no-room, room}
 use Rattle.agal_c.proofs.flat.deliver.Statement.{statement}

@@ -4,7 +4,7 @@ use mathlib.Core.Path.{_∙_, ap}
 use lib.ListN.{length, length-set}
 use denote.Ref.{now}
 use borrow.Author.Needs.{needs}
-use Rattle.bytecode.specs.Stored.{withBytes}
+use Rattle.bytecode.specs.computed.Stored.{withBytes}
 use Rattle.bytecode.proofs.Stored.{word-stored, length-after-word}
 use Rattle.agal_c.proofs.FieldBytes.{destination-bytes}
 use Rattle.agal_c.proofs.flat.put_destination.Statement.{statement}

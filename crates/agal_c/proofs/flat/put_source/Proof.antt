@@ -11,7 +11,7 @@ use denote.Ref.{now}
 use borrow.Author.Needs.{needs}
 use Rattle.layout.specs.Layout.{sourceRows, definedBits, isStray}
 use Rattle.agal_c.specs.Values.{sourceValues}
-use Rattle.bytecode.specs.Stored.{withBytes, afterWord}
+use Rattle.bytecode.specs.computed.Stored.{withBytes, afterWord}
 use Rattle.bytecode.proofs.Stored.{stored-within, length-after-word}
 use Rattle.agal_c.specs.Flat.{operandBytes}
 use Rattle.agal_c.proofs.FieldBytes.{source-bytes}

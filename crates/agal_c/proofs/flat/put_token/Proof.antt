@@ -13,7 +13,7 @@ use Rattle.layout.specs.Records.{tokenOf}
 use Rattle.bytecode.proofs.DecodeLaws.{clean-by}
 use Rattle.bytecode.proofs.Stored.{word-stored}
 use Rattle.agal_c.specs.Values.{destinationValues, operandValues}
-use Rattle.bytecode.specs.Stored.{withBytes}
+use Rattle.bytecode.specs.computed.Stored.{withBytes}
 use Rattle.agal_c.specs.Flat.{destinationBytes, operandBytes, flatBytes, flatOf}
 use Rattle.agal_c.specs.declared.values.Values.{Values}
 use Rattle.agal_c.proofs.flat.put_token.Statement.{statement}

@@ -6,7 +6,8 @@ use denote.Ref.{now}
 use Rattle.layout.specs.Opcodes.{shapeOf}
 use Rattle.bytecode.specs.Fields.{fieldsOf}
 use Rattle.layout.specs.Records.{tokenOf}
-use Rattle.bytecode.specs.Decode.{tokenFault, isClean}
+use Rattle.bytecode.specs.Decode.{tokenFault}
+use Rattle.bytecode.specs.computed.CleanFields.{isClean}
 use Rattle.bytecode.proofs.DecodeLaws.{wrong-length, with-fault, no-faults, clean-none, clean-by, not-clean}
 use borrow.Author.Needs.{needs}
 use Rattle.bytecode.proofs.decoding.decode.Statement.{statement}

@@ -1,7 +1,7 @@
 -- `is_clean` meets its contract.
 -- Assumes nothing.
 use borrow.Author.Tests.{not-true, not-false}
-use Rattle.bytecode.specs.Decode.{isClean}
+use Rattle.bytecode.specs.computed.CleanFields.{isClean}
 use borrow.Author.Needs.{needs}
 use Rattle.bytecode.proofs.decoding.is_clean.Statement.{statement}
 use Rattle.bytecode.proofs.decoding.is_clean.Tie as tie

@@ -1,7 +1,7 @@
 -- `fields_of` meets its contract.
 -- Assumes nothing.
 use borrow.Author.Tests.{lt-ltb, le-ltb}
-use Rattle.bytecode.specs.Fields.{fieldsIn}
+use Rattle.bytecode.specs.computed.CleanFields.{fieldsIn}
 use borrow.Author.Needs.{needs}
 use Rattle.bytecode.proofs.fields.fields_of.Statement.{statement}
 use Rattle.bytecode.proofs.fields.fields_of.Tie as tie

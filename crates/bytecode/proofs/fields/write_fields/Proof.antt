@@ -9,7 +9,7 @@ use borrow.Author.Needs.{needs}
 use lib.Seq.{sets-eq}
 use denote.Ref.{now}
 use Rattle.bytecode.specs.Fields.{bytesOf}
-use Rattle.bytecode.specs.Stored.{afterWord}
+use Rattle.bytecode.specs.computed.Stored.{afterWord}
 use Rattle.layout.specs.declared.fields.Fields.{Fields}
 use Rattle.bytecode.proofs.Stored.{stored-within}
 use Rattle.bytecode.proofs.fields.write_fields.Statement.{statement}

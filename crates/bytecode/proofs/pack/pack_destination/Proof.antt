@@ -2,7 +2,7 @@
 -- Assumes nothing.
 use borrow.Author.Needs.{needs}
 use mathlib.Core.Path.{subst}
-use Rattle.bytecode.specs.Encode.{DestinationPlaced}
+use Rattle.bytecode.specs.computed.Placed.{DestinationPlaced}
 use Rattle.bytecode.proofs.pack.pack_destination.Statement.{statement}
 use Rattle.bytecode.proofs.pack.pack_destination.Tie as tie
 

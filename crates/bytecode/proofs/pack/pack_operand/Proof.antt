@@ -2,7 +2,8 @@
 -- Assumes nothing.
 use borrow.Author.Needs.{needs}
 use mathlib.Core.Path.{_∙_, ap, subst, sym}
-use Rattle.bytecode.specs.Encode.{OperandPlaced, operandField}
+use Rattle.bytecode.specs.Encode.{operandField}
+use Rattle.bytecode.specs.computed.Placed.{OperandPlaced}
 use Rattle.bytecode.proofs.pack.pack_operand.Statement.{statement}
 use Rattle.bytecode.proofs.pack.pack_operand.Tie as tie
 

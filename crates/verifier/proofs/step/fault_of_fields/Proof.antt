@@ -3,7 +3,7 @@
 use mathlib.Core.Bool.{true, false}
 use mathlib.Core.Path.{_≡_}
 use Rattle.layout.specs.Opcodes.{shapeOf}
-use Rattle.bytecode.specs.Decode.{isClean}
+use Rattle.bytecode.specs.computed.CleanFields.{isClean}
 use Rattle.verifier.specs.computed.Step.{faultOfFields}
 use borrow.Author.Needs.{needs}
 use Rattle.verifier.proofs.step.fault_of_fields.Statement.{statement}

@@ -1,4 +1,4 @@
--- What a buffer holds after bytes are stored in it.
+-- What a buffer holds after the code has stored bytes in it, one after another.
 use Prim.Native.Nat.{ℕ, suc, _+_}
 use mathlib.Core.Bool.{cond}
 use mathlib.Core.List.{List, [], _∷_}
