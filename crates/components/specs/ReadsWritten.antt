@@ -2,7 +2,8 @@
 -- opcode and by D of the sources; the tests of faults 9 to 19 tell that a token is of that kind.
 use mathlib.Core.Bool.{Bool, true, false, _||_}
 use mathlib.Core.Path.{_≡_}
-use Rattle.layout.specs.Opcodes.{shapeOf, tex, isOrdinary, isMatrix, isOpener}
+use Rattle.layout.specs.Opcodes.{shapeOf, tex, isMatrix, isOpener}
+use Rattle.layout.specs.computed.Groups.{isOrdinary}
 use Rattle.layout.specs.Records.{isIndexed, tokenOf}
 use Rattle.layout.specs.declared.fields.Fields.{Fields}
 use Rattle.paths.specs.computed.Check.{lacks}

@@ -10,7 +10,8 @@ use Rattle.laws.proofs.Every.{left, right, neither}
 use Rattle.bytecode.specs.computed.CleanFields.{isClean}
 use Rattle.bytecode.proofs.DecodeLaws.{Clean, is-clean}
 use Rattle.layout.specs.Layout.{isStray}
-use Rattle.layout.specs.Opcodes.{isIn, kil, tex, openers, bareOpcodes, isFragmentOnly, isMatrix, isOpener, isBranch, shapeOf, sourceShape, flowOf}
+use Rattle.layout.specs.Opcodes.{isIn, kil, tex, openers, bareOpcodes, isFragmentOnly, isMatrix, isOpener, shapeOf, flowOf}
+use Rattle.layout.specs.computed.Groups.{isBranch, sourceShape}
 use Rattle.layout.specs.Records.{directOf, destinationOf, operandOf, tokenOf}
 use Rattle.layout.specs.Swizzles.{selectorsAgree}
 use Rattle.layout.specs.declared.fields.Fields.{Fields}

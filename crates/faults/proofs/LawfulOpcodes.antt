@@ -8,7 +8,8 @@ use native.Mathlib.Omega.{arith}
 use lib.Dec.{eqb, leb, leb→le}
 use borrow.Author.Tests.{eqb-true, not-true}
 use Rattle.laws.proofs.Every.{left, right, neither}
-use Rattle.layout.specs.Opcodes.{isIn, kil, tex, matrixOpcodes, isAdded, isFragmentOnly, isMatrix, isBranch, isOrdinary, shapeOf, rowCount2}
+use Rattle.layout.specs.Opcodes.{isIn, kil, tex, matrixOpcodes, isAdded, isFragmentOnly, isMatrix, shapeOf, rowCount2}
+use Rattle.layout.specs.computed.Groups.{isBranch, isOrdinary}
 use Rattle.layout.specs.computed.Sets.{amongOf, ordinarySet}
 use Rattle.layout.specs.Swizzles.{selectorsAgree}
 use Rattle.layout.proofs.OpcodeLists.{each, none-of, FirstShape, is-ordinary, ordinary-shape, matrix-shape}

@@ -12,7 +12,8 @@ use Rattle.bytecode.specs.computed.CleanFields.{isClean}
 use Rattle.bytecode.proofs.DecodeLaws.{Clean, is-clean}
 use Rattle.layout.specs.Layout as layout
 use Rattle.layout.specs.Layout.{valueOf, isStray, operandBits}
-use Rattle.layout.specs.Opcodes.{tex, isMatrix, isBranch, rowOf, shapeOfRow, shapeOf, holds, rowCount2}
+use Rattle.layout.specs.Opcodes.{tex, isMatrix, rowOf, shapeOfRow, shapeOf, holds, rowCount2}
+use Rattle.layout.specs.computed.Groups.{isBranch}
 use Rattle.layout.specs.Records.{isIndexed, directOf, registerOf, operandOf, destinationOf, samplerOf, tokenOf}
 use Rattle.layout.specs.declared.fields.Fields.{Fields}
 use Rattle.layout.specs.declared.opcodes.OperandShape.{OperandShape}

@@ -7,8 +7,9 @@ use mathlib.Core.Path.{_≡_, refl, sym, ap, subst, _∙_}
 use lib.Dec.{T, eqb, eqb→eq}
 use borrow.Author.Tests.{eqb-true, not-true}
 use Rattle.laws.proofs.Every.{both-left, both-right, left, right, neither, is-true}
-use Rattle.layout.specs.Opcodes.{isIn, els, eif, kil, tex, oneSourceOpcodes, openers, bareOpcodes, matrixOpcodes, isListed, isFragmentOnly, isMatrix, isOpener, isBranch, isOrdinary}
-use Rattle.layout.specs.Opcodes.{rowCount2, flowOf, holds, rowOf, shapeOfRow, shapeOf, sourceShape}
+use Rattle.layout.specs.Opcodes.{isIn, els, eif, kil, tex, oneSourceOpcodes, openers, bareOpcodes, matrixOpcodes, isListed, isFragmentOnly, isMatrix, isOpener}
+use Rattle.layout.specs.computed.Groups.{isBranch, isOrdinary, sourceShape}
+use Rattle.layout.specs.Opcodes.{rowCount2, flowOf, holds, rowOf, shapeOfRow, shapeOf}
 use Rattle.layout.specs.declared.opcodes.Flow.the-variants.{Plain, Opener, Els, Eif}
 use Rattle.layout.specs.declared.opcodes.OperandShape.{OperandShape}
 use Rattle.layout.specs.declared.opcodes.OperandShape.the-variants.{Unused, Source, Sampler}

@@ -1,6 +1,6 @@
 -- Document 01, "Opcodes": the listed opcodes, what a token of each holds, and what else a rule says of some of them by name.
 use Prim.Native.Nat.{ℕ}
-use mathlib.Core.Bool.{Bool, true, false, not, cond, _&&_, _||_}
+use mathlib.Core.Bool.{Bool, true, false, not, cond, _||_}
 use mathlib.Core.List.{List, [], _∷_, _++_}
 use lib.Dec.{eqb}
 use Rattle.layout.specs.declared.opcodes.Flow.{Flow}
@@ -104,10 +104,6 @@ isOpener o = isIn o openers
 abbrev pub bareOpcodes : List ℕ
 bareOpcodes = els ∷ eif ∷ []
 
--- the opcodes of branches
-abbrev pub isBranch : ℕ → Bool
-isBranch o = isIn o (openers ++ bareOpcodes)
-
 -- "kil or tex in a vertex program": the opcodes that only fragment programs have
 abbrev pub fragmentOpcodes : List ℕ
 fragmentOpcodes = kil ∷ tex ∷ []
@@ -128,15 +124,6 @@ matrixOpcodes = m33 ∷ m44 ∷ m34 ∷ []
 
 abbrev pub isMatrix : ℕ → Bool
 isMatrix o = isIn o matrixOpcodes
-
--- The ordinary opcodes, all others: each has a destination and one or two sources of one register, in every stage, and no rule says anything
--- of it by name but 10 and 15.
-abbrev pub isOrdinary : ℕ → Bool
-isOrdinary o = isListed o && not (isMatrix o) && not (isBranch o) && not (isFragmentOnly o)
-
--- the ordinary opcodes of an edition; edition 1 has no added ones
-abbrev pub isOrdinaryIn : ℕ → ℕ → Bool
-isOrdinaryIn edition o = isOrdinary o && not (eqb edition 1 && isAdded o)
 
 -- "Rows: source 2 of m33 and m34 is 3 registers from its number, of m44 4; every other source 1."
 unfoldable pub rowCount2 : ℕ → ℕ
@@ -179,10 +166,3 @@ shapeOfRow r =
 -- the shape of every opcode number
 abbrev pub shapeOf : ℕ → Shape
 shapeOf o = shapeOfRow (rowOf o)
-
--- a source where one is used; tex alone has a sampler
-abbrev pub sourceShape : Bool → OperandShape
-sourceShape used = cond used Source Unused
-
-abbrev pub secondShape : ℕ → Bool → OperandShape
-secondShape o used = cond (eqb o tex) Sampler (sourceShape used)

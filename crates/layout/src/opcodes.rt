@@ -1,6 +1,7 @@
 // The opcodes, what a token of each holds, and what else a rule says of some of them. Every set of opcodes stands here and in `selection`.
 ghost use mathlib.Core.Path.{_≡_};
-ghost use Rattle.layout.specs.Opcodes.{shapeOf, sourceShape, secondShape, isAdded, isFragmentOnly, isThreeWide, isMatrix, isOpener, isBranch, flowOf};
+ghost use Rattle.layout.specs.Opcodes.{shapeOf, isAdded, isFragmentOnly, isThreeWide, isMatrix, isOpener, flowOf};
+ghost use Rattle.layout.specs.computed.Groups.{sourceShape, secondShape, isBranch};
 ghost use Rattle.layout.specs.computed.Sets.{amongOf, ordinarySet};
 
 // What stands in the field of a source.

@@ -6,7 +6,8 @@ use lib.Bits.{bitAnd}
 use lib.Dec.{eqb, ltb, leb}
 use Rattle.layout.specs.Layout as layout
 use Rattle.layout.specs.Layout.{valueOf, operandBits, isStray}
-use Rattle.layout.specs.Opcodes.{shapeOf, tex, isOpener, isBranch, rowCount2}
+use Rattle.layout.specs.Opcodes.{shapeOf, tex, isOpener, rowCount2}
+use Rattle.layout.specs.computed.Groups.{isBranch}
 use Rattle.layout.specs.Records.{isIndexed, destinationOf, samplerOf}
 use Rattle.layout.specs.computed.Sets.{amongOf, ordinarySet}
 use Rattle.layout.specs.declared.fields.Fields.{Fields}

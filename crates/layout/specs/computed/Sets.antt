@@ -5,7 +5,8 @@ use mathlib.Core.Bool.{Bool, cond, _&&_}
 use mathlib.Core.List.{[], _∷_}
 use lib.Bits.{bitOr}
 use lib.Dec.{ltb, eqb}
-use Rattle.layout.specs.Opcodes.{isIn, m33, m44, m34, kil, tex, isOrdinaryIn}
+use Rattle.layout.specs.Opcodes.{isIn, m33, m44, m34, kil, tex}
+use Rattle.layout.specs.computed.Groups.{isOrdinaryIn}
 use Rattle.layout.specs.Swizzles.{bitOf}
 use Rattle.layout.specs.Selections.{byThree1, byThree2, byFour1, byFour2}
 
