@@ -7,7 +7,8 @@ use native.Mathlib.Omega.{arith}
 use lib.Dec.{ltb, ltb→lt}
 use Rattle.laws.specs.Tests.{every}
 use Rattle.laws.proofs.Every.{below}
-use Rattle.registers.specs.Counts.{countOf, packed}
+use Rattle.registers.specs.Counts.{countOf}
+use Rattle.registers.specs.computed.Packed.{packed}
 use Rattle.registers.proofs.Outside.{outside-kind, outside-edition, outside-stage}
 
 pub none-packed : (c : ℕ → ℕ) → ((k : ℕ) → c k ≡ 0) → 0 ≡ packed c

@@ -1,5 +1,5 @@
 -- Document 01, "Register counts by edition and stage (000)".
-use Prim.Native.Nat.{ℕ, zero, suc, _+_, _*_}
+use Prim.Native.Nat.{ℕ, zero, suc}
 use mathlib.Core.List.{List, [], _∷_}
 use lib.ListN.{getD}
 
@@ -22,9 +22,3 @@ table =
 unfoldable pub countOf : ℕ → ℕ → ℕ → ℕ
 countOf kind zero stage = 0
 countOf kind (suc edition) stage = getD (getD (getD table kind []) edition []) stage 0
-
--- seven counts as one number, eight bits for each kind
-abbrev pub packed : (ℕ → ℕ) → ℕ
-packed count =
-    count 0 + 0x100 * count 1 + 0x10000 * count 2 + 0x1000000 * count 3
-    + 0x100000000 * (count 4 + 0x100 * count 5 + 0x10000 * count 6)

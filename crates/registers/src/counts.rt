@@ -1,7 +1,8 @@
 // Register counts.
 ghost use mathlib.Core.Path.{_≡_};
 ghost use Prim.Native.Nat.{_+_, _*_};
-ghost use Rattle.registers.specs.Counts.{countOf, packed};
+ghost use Rattle.registers.specs.Counts.{countOf};
+ghost use Rattle.registers.specs.computed.Packed.{packed};
 
 // By kind, edition from the first, and stage: vertex, fragment.
 const COUNTS: [[[u8; 2]; 3]; 7] = [

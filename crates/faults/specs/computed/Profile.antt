@@ -2,7 +2,8 @@
 use Prim.Native.Nat.{ℕ, _*_, _/_, _%_, _^_}
 use mathlib.Core.Bool.{cond}
 use lib.Dec.{leb}
-use Rattle.registers.specs.Counts.{countOf, packed}
+use Rattle.registers.specs.Counts.{countOf}
+use Rattle.registers.specs.computed.Packed.{packed}
 use Rattle.faults.specs.declared.profile.Profile.{Profile}
 
 abbrev pub profileOf : ℕ → ℕ → Profile

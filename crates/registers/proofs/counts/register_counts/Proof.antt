@@ -1,7 +1,8 @@
 -- `register_counts` meets its contract.
 -- Assumes nothing.
 use mathlib.Core.Path.{_∙_, ap, fun-ext}
-use Rattle.registers.specs.Counts.{countOf, packed}
+use Rattle.registers.specs.Counts.{countOf}
+use Rattle.registers.specs.computed.Packed.{packed}
 use Rattle.registers.proofs.Outside.{no-edition, outside-edition, outside-stage, entry}
 use Rattle.registers.proofs.Packed.{none-packed}
 use borrow.Author.Needs.{needs}
