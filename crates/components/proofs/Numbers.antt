@@ -8,7 +8,7 @@ use native.Mathlib.Omega.{arith}
 use lib.Dec.{eqb}
 use lib.Pow.{shr-shr}
 use borrow.Author.Tests.{eqb-true, eqb-false, ne-eqb}
-use Rattle.paths.specs.Unwritten.{ComponentSet, has}
+use Rattle.paths.specs.computed.Sets.{ComponentSet, has}
 use Rattle.paths.specs.computed.Check.{lacks}
 use Rattle.layout.specs.Swizzles.{bitOf, keep}
 use Rattle.components.specs.Reads.{Component, registerComponents, rowsOf, temporaries}

@@ -11,7 +11,7 @@ use lib.Pow.{field}
 use borrow.Author.Tests.{lt-ltb, le-ltb, lt-leb, le-leb, eqb-true, ne-eqb}
 use Rattle.layout.specs.declared.record.Destination.the-variants.{Masked}
 use Rattle.layout.specs.declared.record.MaskedRegister.{MaskedRegister}
-use Rattle.paths.specs.Unwritten.{has, adds}
+use Rattle.paths.specs.computed.Sets.{has, adds}
 use Rattle.layout.specs.Swizzles.{bitOf, maskComponents}
 use Rattle.components.specs.Reads.{registerComponents, writesInto, temporaries}
 use Rattle.components.specs.computed.Written.{halfOf, componentSet, joinOf, markedHalf, markOf}

@@ -10,7 +10,7 @@ use native.Mathlib.Omega.{arith}
 use lib.ListN.{length}
 use Rattle.paths.specs.Paths.{Flow, plain, opener, els, eif, Source, source1, source2, TokenFault, PathToken}
 use Rattle.paths.specs.Paths.{Path, arrive, visitOf, visitAt}
-use Rattle.paths.specs.Unwritten.{ComponentSet}
+use Rattle.paths.specs.computed.Sets.{ComponentSet}
 use Rattle.paths.specs.Nesting.{Branch, branchesAfter, openBranchesFrom, misplaced}
 use Rattle.paths.specs.Faults.{Answer, refused, NoFault, FaultIs}
 use Rattle.paths.specs.computed.Check.{keptAt, keptAfter, setBefore, lacks, judge, ending, checkFrom}

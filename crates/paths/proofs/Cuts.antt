@@ -7,7 +7,8 @@ use Prim.Native.Nat.{ℕ, zero, suc, _<_}
 use native.Mathlib.Omega.{arith}
 use lib.ListN.{length, take}
 use Rattle.paths.specs.Paths.{Source, PathToken, Path, arrive, leave, visitOf, visitAt, visitsFrom, visited}
-use Rattle.paths.specs.Unwritten.{ReadsUnwritten, ComponentSet, nothing}
+use Rattle.paths.specs.Unwritten.{ReadsUnwritten}
+use Rattle.paths.specs.computed.Sets.{ComponentSet, nothing}
 use Rattle.paths.proofs.Levels.{writtenAt}
 use Rattle.paths.proofs.Middle.{numberFrom, number-begin}
 use Rattle.paths.proofs.Threaded.{ReadsFrom, threaded-is-sentence}

@@ -11,7 +11,8 @@ use native.Mathlib.Nat.{zero-add}
 use lib.ListN.{take}
 use Rattle.paths.specs.Paths.{Source, source1, source2, TokenFault, PathToken}
 use Rattle.paths.specs.Paths.{Path, arrive, leave, Visit, visitOf, visitAt, visitsFrom}
-use Rattle.paths.specs.Unwritten.{ComponentSet, nothing, SomePathReads}
+use Rattle.paths.specs.Unwritten.{SomePathReads}
+use Rattle.paths.specs.computed.Sets.{ComponentSet, nothing}
 use Rattle.paths.specs.Nesting.{misplacedFrom}
 use Rattle.paths.specs.Faults.{NoFault, FaultIs, tokenFaultAt, Clean, FaultAt}
 use Rattle.paths.specs.computed.Check.{State, nextState, start}

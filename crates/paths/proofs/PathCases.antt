@@ -7,7 +7,7 @@ use mathlib.Core.Option.{none, some, Option·some-injective, Option·none-ne-som
 use Prim.Native.Nat.{ℕ, zero, suc}
 use lib.ListN.{replicate}
 use Rattle.paths.specs.Paths.{Flow, plain, opener, els, eif, Source, source1, source2, PathToken, Visit, visitOf, visited}
-use Rattle.paths.specs.Unwritten.{has}
+use Rattle.paths.specs.computed.Sets.{has}
 use Rattle.paths.specs.Nesting.{eifOf, Closes}
 use Rattle.paths.specs.Faults.{Answer, accepted, refused}
 use Rattle.paths.specs.computed.Check.{verdictOf, checkFrom}

@@ -8,7 +8,8 @@ use Prim.Native.Nat.{ℕ}
 use lib.Dec.{eqb, eqb→eq, eqb-refl}
 use Rattle.laws.proofs.Every.{is-true, neither}
 use Rattle.paths.specs.Paths.{Source, Visit}
-use Rattle.paths.specs.Unwritten.{Unwritten, ReadsUnwritten, ComponentSet, nothing, has, adds}
+use Rattle.paths.specs.Unwritten.{Unwritten, ReadsUnwritten}
+use Rattle.paths.specs.computed.Sets.{ComponentSet, nothing, has, adds}
 
 -- some component of the list is not in the set
 abbrev pub Lacks : ComponentSet → List ℕ → Type 0

@@ -6,7 +6,8 @@ use mathlib.Core.List.{List, [], _∷_, _++_, List·Memᴰ, List·Memᴰ·head, 
 use mathlib.Core.Logic.{_⊎_, inl, inr}
 use Prim.Native.Nat.{ℕ}
 use Rattle.paths.specs.Paths.{Source, Visit}
-use Rattle.paths.specs.Unwritten.{Unwritten, ReadsUnwritten, has}
+use Rattle.paths.specs.Unwritten.{Unwritten, ReadsUnwritten}
+use Rattle.paths.specs.computed.Sets.{has}
 use Rattle.paths.proofs.Threaded.{member-has, still-unwritten}
 
 -- one of these visits wrote the component

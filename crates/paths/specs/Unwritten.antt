@@ -1,9 +1,7 @@
--- Document 01, "Ways, reads and writes": what a path reads that it has not written. Then the sets of components that the check keeps.
-use mathlib.Core.Bool.{Bool, false, _||_}
-use mathlib.Core.List.{List, [], _∷_, _++_, List·Memᴰ}
+-- Document 01, "Ways, reads and writes": what a path reads that it has not written.
+use mathlib.Core.List.{List, _∷_, _++_, List·Memᴰ}
 use mathlib.Core.Path.{_≡_}
 use Prim.Native.Nat.{ℕ, suc}
-use lib.Dec.{eqb}
 use lib.ListN.{take}
 use Rattle.paths.specs.Paths.{Source, PathToken, Path, Visit, visited}
 
@@ -28,22 +26,3 @@ pub record ReadsUnwritten (s : Source) (n : ℕ) (visits : List Visit) : Type 0 
 -- source, an unwritten component.
 abbrev pub SomePathReads : Source → List PathToken → ℕ → Type 0
 SomePathReads s prog n = (p : Path) × ReadsUnwritten s n (visited p (take (suc n) prog))
-
--- ---- sets, for the check in Check: nobody has to believe these
-
--- a set of temporary components, each as register * 4 + component
-abbrev pub ComponentSet : Type 0
-ComponentSet = ℕ → Bool
-
--- the empty one
-abbrev pub nothing : ComponentSet
-nothing c = false
-
--- the set of the components of a list
-abbrev pub has : List ℕ → ComponentSet
-has [] c = false
-has (x ∷ xs) c = eqb x c || has xs c
-
--- a set with the components of a list added
-abbrev pub adds : ComponentSet → List ℕ → ComponentSet
-adds s xs c = s c || has xs c

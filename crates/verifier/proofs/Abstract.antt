@@ -13,7 +13,7 @@ use Rattle.layout.specs.declared.opcodes.Flow.the-variants.{Plain, Opener, Els,
 use Rattle.paths.specs.Paths.{opener, els, eif}
 use Rattle.paths.specs.Nesting as nesting
 use Rattle.paths.specs.Nesting.{misplaced}
-use Rattle.paths.specs.Unwritten.{ComponentSet}
+use Rattle.paths.specs.computed.Sets.{ComponentSet}
 use Rattle.components.specs.Tokens.{pathFlow}
 use Rattle.components.specs.computed.Written.{componentSet}
 use Rattle.paths.specs.computed.Check as check

@@ -15,7 +15,7 @@ use Rattle.layout.specs.declared.record.Destination.{Destination}
 use Rattle.layout.specs.declared.record.Destination.the-variants.{Unused as NoDestination, Masked}
 use Rattle.paths.specs.Paths.{Flow}
 use Rattle.paths.specs.Nesting.{branchesAfter}
-use Rattle.paths.specs.Unwritten.{ComponentSet, adds}
+use Rattle.paths.specs.computed.Sets.{ComponentSet, adds}
 use Rattle.components.specs.Reads.{writesInto, temporaries}
 use Rattle.components.specs.Tokens.{pathFlow}
 use Rattle.components.specs.computed.Written.{componentSet}

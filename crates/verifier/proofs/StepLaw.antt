@@ -28,7 +28,7 @@ use Rattle.paths.specs.Faults.{Answer, refused}
 use Rattle.components.specs.Reads.{reads1, reads2, writesInto, temporaries}
 use Rattle.components.specs.Tokens.{pathFlow, pathTokenOf}
 use Rattle.components.specs.computed.Access.{lacksAccess, access1Of, access2Of}
-use Rattle.paths.specs.Unwritten.{adds}
+use Rattle.paths.specs.computed.Sets.{adds}
 use Rattle.components.specs.computed.Written.{componentSet}
 use Rattle.paths.specs.computed.Check.{judge, lacks, setBefore, nextState, checkFrom}
 use Rattle.components.proofs.AccessLaws.{lacks-reads1, lacks-reads2}

@@ -11,7 +11,7 @@ use lib.Dec.{eqb, ltb, leb}
 use lib.ListN.{length, take, drop, length-take, length-drop}
 use borrow.Author.Tests.{eq-eqb, ne-eqb, le-ltb, leb-true, not-true}
 use Rattle.laws.proofs.Every.{left as both-left, right as both-right}
-use Rattle.paths.specs.Unwritten.{nothing}
+use Rattle.paths.specs.computed.Sets.{nothing}
 use Rattle.components.specs.computed.Written.{componentSet, halfOf}
 use Rattle.paths.specs.Faults.{refused}
 use Rattle.paths.specs.computed.Check.{start, checkFrom, verdictOf}

@@ -4,7 +4,7 @@ use Prim.Native.Nat.{ℕ, _*_, _/_, _%_, _^_}
 use mathlib.Core.Bool.{Bool, cond, not}
 use lib.Bits.{bitAnd, bitOr}
 use lib.Dec.{ltb, eqb}
-use Rattle.paths.specs.Unwritten.{ComponentSet}
+use Rattle.paths.specs.computed.Sets.{ComponentSet}
 use Rattle.paths.specs.computed.Check.{lacks}
 use Rattle.layout.specs.Swizzles.{bitOf, maskComponents}
 use Rattle.components.specs.Reads.{rowsOf, temporaries}

@@ -5,7 +5,7 @@ use mathlib.Core.List.{List, [], _∷_}
 use mathlib.Core.Option.{Option, none, some}
 use Prim.Native.Nat.{ℕ, suc}
 use Rattle.paths.specs.Paths.{Flow, plain, opener, els, eif, source1, source2, TokenFault, PathToken}
-use Rattle.paths.specs.Unwritten.{ComponentSet, nothing, adds}
+use Rattle.paths.specs.computed.Sets.{ComponentSet, nothing, adds}
 use Rattle.paths.specs.Nesting.{Branch, branchesAfter, misplaced}
 use Rattle.paths.specs.Faults.{Answer, accepted, refused}
 
