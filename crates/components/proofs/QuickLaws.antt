@@ -19,7 +19,7 @@ use Rattle.paths.specs.computed.Check.{lacks}
 use Rattle.components.specs.computed.Access.{lacksAccess, lacksSome, indexAccess, directAccess, selectedAccess, accessThrough, access1Of, access2Of}
 use Rattle.components.specs.computed.QuickTests.{mayLack, mayReadUnwritten, matrixMayReadUnwritten, texMayReadUnwritten, indexedMayReadUnwritten, openerMayReadUnwritten}
 use Rattle.components.specs.Reads.{dimensionOf, reads1, reads2, temporaries}
-use Rattle.components.specs.ReadsWritten.{ReadsWritten, OrdinaryReads, MatrixReads, TexReads, IndexedReads, OpenerReads}
+use Rattle.components.specs.computed.ReadsWritten.{ReadsWritten, OrdinaryReads, MatrixReads, TexReads, IndexedReads, OpenerReads}
 use Rattle.components.specs.computed.Written.{componentSet}
 use Rattle.components.specs.declared.written.Written.{Written}
 use Rattle.components.proofs.AccessFields.{source-dimension}

@@ -1,4 +1,3 @@
 pub mod Reads
-pub mod ReadsWritten
 pub mod Tokens
 pub mod computed

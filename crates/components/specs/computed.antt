@@ -1,4 +1,5 @@
 -- What the code computes. Nobody has to believe these definitions: laws tie them to those beside this folder, which transcribe the papers.
 pub mod Access
 pub mod QuickTests
+pub mod ReadsWritten
 pub mod Written

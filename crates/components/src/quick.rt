@@ -2,7 +2,7 @@
 // token that does. Those of matrices and indexed sources ask for all four components, and so may say yes of one that does not.
 ghost use mathlib.Core.Path.{_≡_};
 ghost use Rattle.components.specs.computed.QuickTests.{mayReadUnwritten, matrixMayReadUnwritten, texMayReadUnwritten, mayLack, indexedMayReadUnwritten, openerMayReadUnwritten};
-ghost use Rattle.components.specs.ReadsWritten.{OrdinaryReads, MatrixReads, TexReads, IndexedReads, OpenerReads};
+ghost use Rattle.components.specs.computed.ReadsWritten.{OrdinaryReads, MatrixReads, TexReads, IndexedReads, OpenerReads};
 use crate::access;
 use crate::written::Written;
 use layout::fields::Fields;

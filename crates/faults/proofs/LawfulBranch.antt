@@ -23,7 +23,7 @@ use Rattle.layout.proofs.OpcodeSets.{one-row, outside-matrices}
 use Rattle.paths.specs.computed.Check.{lacks}
 use Rattle.components.specs.computed.QuickTests.{openerMayReadUnwritten}
 use Rattle.components.specs.Reads.{reads1, reads2, temporaries}
-use Rattle.components.specs.ReadsWritten.{ReadsWritten, BothDirect}
+use Rattle.components.specs.computed.ReadsWritten.{ReadsWritten, BothDirect}
 use Rattle.components.specs.computed.Written.{componentSet}
 use Rattle.components.specs.declared.written.Written.{Written}
 use Rattle.components.proofs.QuickLaws.{opener-reads}

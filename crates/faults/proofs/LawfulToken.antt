@@ -22,7 +22,7 @@ use Rattle.layout.specs.declared.record.Destination.the-variants.{Masked}
 use Rattle.layout.specs.declared.record.Token.{Token}
 use Rattle.layout.specs.computed.Sets.{amongOf, ordinarySet}
 use Rattle.components.specs.computed.QuickTests.{mayReadUnwritten, matrixMayReadUnwritten, texMayReadUnwritten}
-use Rattle.components.specs.ReadsWritten.{ReadsWritten}
+use Rattle.components.specs.computed.ReadsWritten.{ReadsWritten}
 use Rattle.components.specs.declared.written.Written.{Written}
 use Rattle.components.proofs.QuickLaws.{ordinary-reads, matrix-reads, tex-reads}
 use Rattle.layout.proofs.OpcodeLists.{is-ordinary, matrix-shape, many-rows}

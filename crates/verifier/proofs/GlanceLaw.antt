@@ -19,7 +19,7 @@ use Rattle.layout.specs.Programs.{tokenAt}
 use Rattle.layout.proofs.OpcodeLists.{plain-flow}
 use Rattle.components.specs.computed.Access.{lacksAccess, access1Of, access2Of}
 use Rattle.components.specs.computed.QuickTests.{openerMayReadUnwritten}
-use Rattle.components.specs.ReadsWritten.{ReadsWritten}
+use Rattle.components.specs.computed.ReadsWritten.{ReadsWritten}
 use Rattle.components.specs.declared.written.Written.{Written}
 use Rattle.components.proofs.AccessLaws.{lacks-reads1, lacks-reads2}
 use Rattle.faults.specs.computed.Faults.{ownFault}

@@ -1,7 +1,7 @@
 -- `indexed_may_read_unwritten` meets its contract.
 -- Assumes nothing.
 use Rattle.components.specs.computed.QuickTests.{indexedMayReadUnwritten}
-use Rattle.components.specs.ReadsWritten.{IndexedReads}
+use Rattle.components.specs.computed.ReadsWritten.{IndexedReads}
 use Rattle.components.proofs.QuickLaws.{with-meaning, indexed-reads}
 use borrow.Author.Needs.{needs}
 use Rattle.components.proofs.quick.indexed_may_read_unwritten.Statement.{statement}

@@ -1,7 +1,7 @@
 -- `matrix_may_read_unwritten` meets its contract.
 -- Assumes nothing.
 use Rattle.components.specs.computed.QuickTests.{matrixMayReadUnwritten}
-use Rattle.components.specs.ReadsWritten.{MatrixReads}
+use Rattle.components.specs.computed.ReadsWritten.{MatrixReads}
 use Rattle.components.proofs.QuickLaws.{with-meaning, matrix-reads}
 use borrow.Author.Needs.{needs}
 use Rattle.components.proofs.quick.matrix_may_read_unwritten.Statement.{statement}

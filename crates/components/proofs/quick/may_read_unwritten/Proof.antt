@@ -7,7 +7,7 @@ use Rattle.laws.proofs.Every.{neither}
 use Rattle.layout.specs.Records.{directOf, registerOf}
 use Rattle.layout.specs.computed.Sets.{namedSet, selectorSet1, selectorSet2}
 use Rattle.components.specs.computed.QuickTests.{mayReadUnwritten}
-use Rattle.components.specs.ReadsWritten.{OrdinaryReads}
+use Rattle.components.specs.computed.ReadsWritten.{OrdinaryReads}
 use Rattle.components.proofs.QuickLaws.{with-meaning, ordinary-reads}
 use Rattle.components.proofs.AccessLaws.{none-missing}
 use borrow.Author.Needs.{needs}

@@ -1,7 +1,7 @@
 -- `opener_may_read_unwritten` meets its contract.
 -- Assumes nothing.
 use Rattle.components.specs.computed.QuickTests.{openerMayReadUnwritten}
-use Rattle.components.specs.ReadsWritten.{OpenerReads}
+use Rattle.components.specs.computed.ReadsWritten.{OpenerReads}
 use Rattle.components.proofs.QuickLaws.{with-meaning, opener-reads}
 use borrow.Author.Needs.{needs}
 use Rattle.components.proofs.quick.opener_may_read_unwritten.Statement.{statement}

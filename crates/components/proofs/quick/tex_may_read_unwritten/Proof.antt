@@ -1,7 +1,7 @@
 -- `tex_may_read_unwritten` meets its contract.
 -- Assumes nothing.
 use Rattle.components.specs.computed.QuickTests.{texMayReadUnwritten}
-use Rattle.components.specs.ReadsWritten.{TexReads}
+use Rattle.components.specs.computed.ReadsWritten.{TexReads}
 use Rattle.components.proofs.QuickLaws.{with-meaning, tex-reads}
 use borrow.Author.Needs.{needs}
 use Rattle.components.proofs.quick.tex_may_read_unwritten.Statement.{statement}
