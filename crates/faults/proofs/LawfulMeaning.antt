@@ -15,8 +15,8 @@ use Rattle.layout.specs.declared.fields.Fields.{Fields}
 use Rattle.paths.specs.Paths.{TokenFault}
 use Rattle.registers.specs.Counts.{countOf}
 use Rattle.faults.specs.computed.Faults.{refusalAt}
-use Rattle.faults.specs.Lawful.{Lawful, LawfulWith, LawfulUnder}
-use Rattle.faults.specs.computed.LawfulTests.{usableOf}
+use Rattle.faults.specs.Lawful.{Lawful}
+use Rattle.faults.specs.computed.LawfulTests.{LawfulWith, LawfulUnder, usableOf}
 use Rattle.bytecode.specs.Fields.{recordOf}
 use Rattle.faults.specs.Order.{}
 use Rattle.faults.specs.computed.Profile.{profileOf}

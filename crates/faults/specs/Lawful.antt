@@ -8,20 +8,8 @@ use Rattle.bytecode.specs.Fields.{fieldsOf}
 use Rattle.layout.specs.declared.fields.Fields.{Fields}
 use Rattle.registers.specs.Counts.{countOf}
 use Rattle.faults.specs.Order.{firstFault, tokenRules}
-use Rattle.faults.specs.computed.LawfulTests.{usableOf}
-use Rattle.faults.specs.computed.Profile.{profileOf}
-use Rattle.faults.specs.declared.lawful.Usable.{Usable}
-use Rattle.faults.specs.declared.profile.Profile.{Profile}
 
 -- in an edition and a stage: of 24 bytes that hold these fields no rule is broken
 abbrev pub Lawful : ℕ → ℕ → Fields → Type 0
 Lawful edition stage f =
     (s : List ℕ) → length s ≡ 24 → fieldsOf s ≡ f → firstFault (tokenRules (λ k. countOf k edition stage) edition stage s) ≡ none
-
--- in each edition and stage that has these opcodes and registers
-abbrev pub LawfulWith : Usable → Fields → Type 0
-LawfulWith usable f = (edition stage : ℕ) → usable ≡ usableOf (profileOf edition stage) → Lawful edition stage f
-
--- in the edition and stage of a profile
-abbrev pub LawfulUnder : Profile → Usable → Fields → Type 0
-LawfulUnder profile usable f = (edition stage : ℕ) → profile ≡ profileOf edition stage → usable ≡ usableOf profile → Lawful edition stage f

@@ -2,8 +2,7 @@
 // of them; the others are judged rule by rule.
 ghost use mathlib.Core.Bool.{true};
 ghost use mathlib.Core.Path.{_≡_};
-ghost use Rattle.faults.specs.computed.LawfulTests.{usableOf, countAt, isSource, lawfulSourceBits, isLawfulDestination, isLawfulSource, isRightlyIndexed, isLawfulEither, isLawful, isLawfulMatrix, isLawfulTex, isLawfulIndexed, isLawfulBranch};
-ghost use Rattle.faults.specs.Lawful.{LawfulWith, LawfulUnder};
+ghost use Rattle.faults.specs.computed.LawfulTests.{usableOf, countAt, isSource, lawfulSourceBits, isLawfulDestination, isLawfulSource, isRightlyIndexed, isLawfulEither, isLawful, isLawfulMatrix, isLawfulTex, isLawfulIndexed, isLawfulBranch, LawfulWith, LawfulUnder};
 use crate::profile::Profile;
 use crate::rules;
 use layout::bits;

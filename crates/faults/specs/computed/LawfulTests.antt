@@ -1,7 +1,8 @@
--- What the tests compute that tell lawful tokens by a few looks at their fields. Nobody has to believe these: what the answer "yes" means
--- stands in Lawful.
+-- What the tests compute that tell lawful tokens by a few looks at their fields, and what the answer "yes" means: the token is Lawful. Nobody
+-- has to believe these.
 use Prim.Native.Nat.{ℕ, _+_, _*_, _/_, _%_, _^_}
 use mathlib.Core.Bool.{Bool, true, false, not, cond, _&&_, _||_}
+use mathlib.Core.Path.{_≡_}
 use lib.Bits.{bitAnd}
 use lib.Dec.{eqb, ltb, leb}
 use Rattle.layout.specs.Layout as layout
@@ -14,7 +15,8 @@ use Rattle.layout.specs.declared.fields.Fields.{Fields}
 use Rattle.layout.specs.declared.opcodes.OperandShape.{OperandShape}
 use Rattle.layout.specs.declared.opcodes.OperandShape.the-variants.{Unused, Source, Sampler}
 use Rattle.faults.specs.Rules.{maskWrong, samplerWrong}
-use Rattle.faults.specs.computed.Profile.{countIn}
+use Rattle.faults.specs.Lawful.{Lawful}
+use Rattle.faults.specs.computed.Profile.{profileOf, countIn}
 use Rattle.faults.specs.declared.lawful.Usable.{Usable}
 use Rattle.faults.specs.declared.profile.Profile.{Profile}
 
@@ -108,3 +110,13 @@ isLawfulBranch p u f =
     (not (eqb (p .edition) 1) && eqb (f .destination) 0
     && isLawfulSource (u .readable) (isOpener (f .opcode)) 1 (f .source1)
     && isLawfulSource (u .readable) (isOpener (f .opcode)) 1 (f .source2))
+
+-- ---- what the answer "yes" means: the token is lawful
+
+-- in each edition and stage that has these opcodes and registers
+abbrev pub LawfulWith : Usable → Fields → Type 0
+LawfulWith usable f = (edition stage : ℕ) → usable ≡ usableOf (profileOf edition stage) → Lawful edition stage f
+
+-- in the edition and stage of a profile
+abbrev pub LawfulUnder : Profile → Usable → Fields → Type 0
+LawfulUnder profile usable f = (edition stage : ℕ) → profile ≡ profileOf edition stage → usable ≡ usableOf profile → Lawful edition stage f
