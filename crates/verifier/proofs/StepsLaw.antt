@@ -26,8 +26,8 @@ use Rattle.faults.specs.computed.Profile.{profileOf}
 use Rattle.faults.specs.declared.profile.Profile.{Profile}
 use Rattle.verifier.specs.computed.State.{noneWritten, startState, withFault}
 use Rattle.verifier.specs.computed.Step.{faultOfFields, stepOf}
-use Rattle.verifier.specs.computed.Steps.{stepsOver, finishOf, judgedBy}
-use Rattle.verifier.specs.Verdict.{program, answerOf, opensUnlisted}
+use Rattle.verifier.specs.computed.Steps.{stepsOver, finishOf, judgedBy, opensUnlisted}
+use Rattle.verifier.specs.Verdict.{program, answerOf}
 use Rattle.verifier.specs.declared.answers.Checked.the-variants.{Accepted, Refused}
 use Rattle.verifier.specs.declared.state.State.{State}
 use Rattle.verifier.proofs.Abstract.{abstractOf, Valid, valid-start}

@@ -1,19 +1,14 @@
 -- The answer of the whole check, as a definition that computes. Nobody has to believe it: what it must be is stated in Exact, over rules
 -- and paths.
 use Prim.Native.Nat.{ℕ}
-use mathlib.Core.Bool.{Bool, not, _&&_}
 use mathlib.Core.List.{List}
 use mathlib.Core.Option.{Option, none, some}
-use lib.Dec.{leb}
-use lib.ListN.{length}
-use Rattle.layout.specs.Opcodes.{shapeOf}
 use Rattle.bytecode.specs.Decode.{refusal}
-use Rattle.bytecode.specs.Fields.{fieldsOf}
 use Rattle.bytecode.specs.Numbers.{Numbers, acceptedNumbers, refusalNumbers}
 use Rattle.paths.specs.Paths.{TokenFault}
 use Rattle.paths.specs.Faults.{Answer, accepted, refused}
 use Rattle.paths.specs.computed.Check.{verdictOf}
-use Rattle.layout.specs.Programs.{stageOf, tokenCount, tokenAt}
+use Rattle.layout.specs.Programs.{stageOf, tokenCount}
 use Rattle.faults.specs.Order.{firstFault, headerRules, tokensOf}
 use Rattle.verifier.specs.declared.answers.Program.{Program}
 use Rattle.verifier.specs.declared.answers.Checked.{Checked}
@@ -26,10 +21,6 @@ program stage tokens = record { stage = stage; tokens = tokens }
 abbrev pub answerOf : List ℕ → Answer → Checked
 answerOf bytes accepted = Accepted (program (stageOf bytes) (tokenCount bytes))
 answerOf bytes (refused number token part) = Refused (refusal number token part)
-
--- there is a first token, and its opcode is not listed
-unfoldable pub opensUnlisted : List ℕ → Bool
-opensUnlisted bytes = leb 31 (length bytes) && not (shapeOf (fieldsOf (tokenAt bytes 0) .opcode) .listed)
 
 -- a fault of the header, or else what the tokens give
 abbrev pub afterHeader : Option TokenFault → Checked → Checked

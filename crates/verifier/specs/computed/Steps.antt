@@ -1,10 +1,12 @@
--- The whole check on the state that the code keeps: a step for each token, and what the last state answers.
+-- The whole check on the state that the code keeps: a look at the first opcode, a step for each token, and what the last state answers.
 use Prim.Native.Nat.{ℕ, zero, suc, _+_}
-use mathlib.Core.Bool.{cond}
+use mathlib.Core.Bool.{Bool, not, cond, _&&_}
 use mathlib.Core.List.{List}
-use lib.Dec.{eqb}
+use lib.Dec.{eqb, leb}
+use lib.ListN.{length}
 use Rattle.bytecode.specs.Decode.{refusal}
 use Rattle.bytecode.specs.Fields.{fieldsOf}
+use Rattle.layout.specs.Opcodes.{shapeOf}
 use Rattle.layout.specs.Programs.{tokenAt, stageOf, tokenCount}
 use Rattle.faults.specs.computed.Profile.{profileOf}
 use Rattle.faults.specs.declared.profile.Profile.{Profile}
@@ -14,6 +16,10 @@ use Rattle.verifier.specs.Verdict.{program}
 use Rattle.verifier.specs.declared.answers.Checked.{Checked}
 use Rattle.verifier.specs.declared.answers.Checked.the-variants.{Accepted, Refused}
 use Rattle.verifier.specs.declared.state.State.{State}
+
+-- there is a first token, and its opcode is not listed
+unfoldable pub opensUnlisted : List ℕ → Bool
+opensUnlisted bytes = leb 31 (length bytes) && not (shapeOf (fieldsOf (tokenAt bytes 0) .opcode) .listed)
 
 -- "its state takes a token and hands the next state back": the state after so many tokens, from token n on
 unfoldable pub stepsOver : Profile → List ℕ → State → ℕ → ℕ → State

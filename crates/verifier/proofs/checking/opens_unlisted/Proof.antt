@@ -1,7 +1,7 @@
 -- `opens_unlisted` meets its contract.
 -- Assumes nothing.
 use borrow.Author.Tests.{le-leb, lt-leb}
-use Rattle.verifier.specs.Verdict.{opensUnlisted}
+use Rattle.verifier.specs.computed.Steps.{opensUnlisted}
 use borrow.Author.Needs.{needs}
 use Rattle.verifier.proofs.checking.opens_unlisted.Statement.{statement}
 use Rattle.verifier.proofs.checking.opens_unlisted.Tie as tie
