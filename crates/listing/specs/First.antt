@@ -33,10 +33,3 @@ firstLine (Accepted h) = headingLine h
 firstLine (Refused r) = refusalLine r
 firstLine NoEdition = ascii "no edition\n"
 firstLine InputTooLong = ascii "input too long\n"
-
--- as many bytes as a first line of each kind has at most: a number of tokens has five digits, the token of a refusal twenty
-abbrev pub firstMost : FirstLine → ℕ
-firstMost (Accepted h) = 34
-firstMost (Refused r) = 49
-firstMost NoEdition = 34
-firstMost InputTooLong = 34

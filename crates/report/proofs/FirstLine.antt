@@ -8,7 +8,8 @@ use types.Run.{OneOf, miss}
 use denote.Enum.Declared.{tagOf}
 use lib.ListN.{length, take, drop, length-drop}
 use lib.Seq.{take-length}
-use Rattle.listing.specs.First.{firstLine, firstMost}
+use Rattle.listing.specs.First.{firstLine}
+use Rattle.listing.specs.computed.Writers.{firstMost}
 use Rattle.listing.specs.declared.first.FirstLine.{FirstLine}
 use Rattle.listing.specs.declared.first.FirstLine.the-variants.{Accepted, Refused, NoEdition, InputTooLong}
 use Rattle.listing.specs.declared.first.Heading.{Heading}

@@ -1,6 +1,7 @@
 // The text that agallist prints, into a lent buffer.
 ghost use lib.ListN.{length, drop};
-ghost use Rattle.listing.specs.First.{firstLine, firstMost};
+ghost use Rattle.listing.specs.First.{firstLine};
+ghost use Rattle.listing.specs.computed.Writers.{firstMost};
 ghost use Rattle.report.specs.Text.{textOf};
 ghost use Rattle.report.specs.Report.{Reports};
 ghost use Rattle.report.specs.computed.Writers.{BeginsText, HasRoom, Measured, Fits, Puts};

@@ -1,4 +1,5 @@
--- What the functions of this crate promise each other. No public promise says anything by these names.
+-- What the functions of this crate promise each other and those of report. No promise of a call that document 01 names says anything by these
+-- names.
 use Prim.Native.Nat.{ℕ, _+_, _/_, _%_, _≤_}
 use mathlib.Core.Bool.{true, cond, _&&_}
 use mathlib.Core.List.{List, [], _∷_, _++_}
@@ -12,6 +13,8 @@ use Rattle.layout.specs.declared.record.Token.{Token}
 use Rattle.listing.specs.Text.{when}
 use Rattle.listing.specs.Decimal.{digit}
 use Rattle.listing.specs.Line.{destinationHasNames, operandHasNames}
+use Rattle.listing.specs.declared.first.FirstLine.{FirstLine}
+use Rattle.listing.specs.declared.first.FirstLine.the-variants.{Accepted, Refused, NoEdition, InputTooLong}
 
 -- A text grows at the end of what a buffer holds: the text so far is what stands before a place. Each writer puts its item there; r, the
 -- place after the item, is at most `most` further, and what stands from r on stays.
@@ -45,3 +48,10 @@ pub record Nameable (t : Token) (s d : ℕ) : Type 0 where
   pub source1 : operandHasNames (t .source1) ≡ true
   pub source2 : operandHasNames (t .source2) ≡ true
   pub room : operandRoom (t .source1) + operandRoom (t .source2) ≤ 77
+
+-- as many bytes as a first line of each kind has at most: a number of tokens has five digits, the token of a refusal twenty
+abbrev pub firstMost : FirstLine → ℕ
+firstMost (Accepted h) = 34
+firstMost (Refused r) = 49
+firstMost NoEdition = 34
+firstMost InputTooLong = 34
