@@ -27,7 +27,8 @@ use Rattle.listing.specs.declared.answers.Printed.the-variants.{Refused as NotP
 use Rattle.listing.proofs.LineLaws.{not-nameable}
 use Rattle.bytecode.proofs.DecodeLaws.{wrong-length, with-fault, no-faults, clean-none, clean-by, not-clean}
 use Rattle.layout.specs.Programs.{tokenStart, noTokenLeft}
-use Rattle.reader.specs.Reading.{tokenBytes, standsAt}
+use Rattle.reader.specs.Reading.{standsAt}
+use Rattle.reader.specs.computed.Steps.{tokenBytes}
 use Rattle.agal_c.specs.Answers.{answered, refused}
 use Rattle.agal_c.specs.declared.answers.Answer.{Answer}
 use Rattle.agal_c.specs.Flat.{flatOf, isFlat, tokenOfFlat}

@@ -20,7 +20,8 @@ use Rattle.bytecode.specs.declared.answers.Decoded.{Decoded}
 use Rattle.bytecode.specs.declared.answers.Decoded.the-variants.{Token as Accepted, Refused}
 use Rattle.layout.specs.Programs.{tokenAt, tokenStart, noTokenLeft}
 use Rattle.reader.specs.declared.answers.Opening.the-variants.{Ready, Refused as NotOpened}
-use Rattle.reader.specs.Reading.{openingFault, openingNumbers, openingOf, tokenBytes, standsAt, faultAt, readOf, readFault, placeFrom, placeAfter, ReadsAt, Steps}
+use Rattle.reader.specs.Reading.{openingFault, openingNumbers, openingOf, standsAt, faultAt, readOf, readFault, placeFrom, placeAfter, ReadsAt}
+use Rattle.reader.specs.computed.Steps.{tokenBytes, Steps}
 
 module _ (s : List ℕ) where
   pub too-short : length s < 7 → NotOpened (refusal 2 0 0) ≡ openingOf s

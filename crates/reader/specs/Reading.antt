@@ -1,7 +1,7 @@
 -- Document 01, "Token reader": what opening and each read answer, and where they leave the reader.
 use Prim.Native.Nat.{ℕ, _+_}
 use mathlib.Core.Bool.{cond}
-use mathlib.Core.List.{List, []}
+use mathlib.Core.List.{List}
 use mathlib.Core.Path.{_≡_}
 use lib.Dec.{ltb, eqb}
 use lib.ListN.{length}
@@ -17,7 +17,6 @@ use Rattle.reader.specs.declared.answers.Opening.{Opening}
 use Rattle.reader.specs.declared.answers.Opening.the-variants.{Ready, Refused as NotOpened}
 use Rattle.reader.specs.declared.answers.Opened.{Opened}
 use Rattle.reader.specs.declared.answers.Read.{Read}
-use Rattle.reader.specs.declared.steps.Step.{Step}
 
 -- "Opening needs 7 bytes (else 2, and its reads answer 24)": the fault; what its reads answer is RefusedOpening in Sequence
 unfoldable pub openingFault : List ℕ → Refusal
@@ -31,10 +30,6 @@ openingNumbers (NotOpened r) = refusalNumbers r
 -- what opening answers
 unfoldable pub openingOf : List ℕ → Opening
 openingOf s = cond (eqb (openingFault s .number) 0) Ready (NotOpened (openingFault s))
-
--- the bytes of token n, or none where fewer than 24 are left
-unfoldable pub tokenBytes : List ℕ → ℕ → List ℕ
-tokenBytes s n = cond (noTokenLeft s n) [] (tokenAt s n)
 
 -- "Outside the check a refusal's token is 0, for the reader the token it stands at"
 abbrev pub faultAt : ℕ → Refusal → Refusal
@@ -66,11 +61,6 @@ placeAfter s n = placeFrom n (readOf s n)
 pub record ReadsAt (s : List ℕ) (n : ℕ) (r : Decoded) : Type 0 where
   pub answer : r ≡ readOf s n
   pub numbers : decodedNumbers r ≡ foundNumbers (readFault s n) 0 0
-
--- the answer, and the place after it
-pub record Steps (s : List ℕ) (n : ℕ) (r : Step) : Type 0 where
-  pub reads : ReadsAt s n (r .answer)
-  pub place : r .place ≡ placeAfter s n
 
 -- the promise of open: its answer and the answer's numbers; the reader holds the very slice lent and stands at token 0, on a refusal too
 pub record Opens (lent : RefT (List ℕ)) (r : Opened) : Type 0 where

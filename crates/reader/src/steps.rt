@@ -1,6 +1,7 @@
 // What the reader answers, on a plain slice and a number of tokens read.
 ghost use mathlib.Core.Path.{_≡_};
-ghost use Rattle.reader.specs.Reading.{openingOf, tokenBytes, standsAt, ReadsAt, Steps};
+ghost use Rattle.reader.specs.Reading.{openingOf, standsAt, ReadsAt};
+ghost use Rattle.reader.specs.computed.Steps.{tokenBytes, Steps};
 use crate::answers::Opening;
 use bytecode::answers::Decoded;
 

@@ -49,7 +49,7 @@ use denote.Exit.{yes}
 use denote.Triple.Clauses.{ensured, lasts}
 use Rattle.bytecode.proofs.answers.Decoded as E
 use Rattle.bytecode.proofs.answers.Decoded.Laws as E′
-use Rattle.reader.specs.Reading.{Steps}
+use Rattle.reader.specs.computed.Steps.{Steps}
 use Rattle.reader.specs.declared.answers.TokenReader.{TokenReader}
 use Rattle.reader.specs.declared.answers.Read.{Read}
 use Rattle.reader.specs.declared.steps.Step.{Step}
