@@ -32,7 +32,8 @@ use Rattle.reader.specs.computed.Steps.{tokenBytes}
 use Rattle.agal_c.specs.Answers.{answered, refused}
 use Rattle.agal_c.specs.declared.answers.Answer.{Answer}
 use Rattle.agal_c.specs.Flat.{flatOf, isFlat, tokenOfFlat}
-use Rattle.agal_c.specs.Calls.{deliveryAnswer, delivered, outrightFault, deliveryCode, codeAnswer, encodedAnswer, encodeAnswer, afterFlatEncode, printedAnswer, lineAnswerOf, afterFlatLine}
+use Rattle.agal_c.specs.Calls.{deliveryAnswer, delivered, encodedAnswer, encodeAnswer, afterFlatEncode, printedAnswer, lineAnswerOf, afterFlatLine}
+use Rattle.agal_c.specs.computed.Delivery.{outrightFault, deliveryCode, codeAnswer}
 
 -- ---- what decode answers of 24 bytes, from their fields
 

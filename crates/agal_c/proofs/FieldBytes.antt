@@ -15,7 +15,8 @@ use Rattle.layout.proofs.Stray.{all-kept}
 use Rattle.bytecode.proofs.Words.{long-bytes}
 use Rattle.bytecode.proofs.RegisterAgain.{rising as destination-rising}
 use Rattle.bytecode.proofs.SourceAgain.{rising as source-rising}
-use Rattle.agal_c.specs.Values.{destinationValues, sourceValues, operandValues}
+use Rattle.agal_c.specs.Values.{destinationValues, operandValues}
+use Rattle.agal_c.specs.computed.Delivery.{sourceValues}
 use Rattle.agal_c.specs.Flat.{destinationBytes, operandBytes}
 
 -- an unused field is 0

@@ -1,11 +1,9 @@
 -- What each exported function answers, by what the libraries' functions answer, and what a lent buffer holds afterwards.
-use Prim.Native.Nat.{ℕ, _+_, _*_, _/_, _%_}
+use Prim.Native.Nat.{ℕ, _+_}
 use mathlib.Core.Bool.{cond}
 use mathlib.Core.List.{List, _++_}
-use lib.Dec.{eqb, ltb}
+use lib.Dec.{ltb}
 use lib.ListN.{length, drop}
-use Rattle.layout.specs.Opcodes.{shapeOf}
-use Rattle.bytecode.specs.Fields.{fieldsOf}
 use Rattle.bytecode.specs.Decode.{refusal}
 use Rattle.bytecode.specs.Encode.{encodeOf, afterEncode}
 use Rattle.bytecode.specs.declared.answers.Decoded.{Decoded}
@@ -39,20 +37,6 @@ deliveryAnswer place step (NotRead r) buffer = refused r place
 abbrev pub delivered : Decoded → List ℕ → List ℕ
 delivered (Read t) buffer = cond (ltb (length buffer) 29) buffer (flatOf t ++ drop 29 buffer)
 delivered (NotRead r) buffer = buffer
-
--- the faults that are told before any field but the opcode is looked into, 24 and then 9, which have no part; 0 where there is neither
-unfoldable pub outrightFault : List ℕ → ℕ
-outrightFault s = cond (eqb (length s) 24) (cond (shapeOf (fieldsOf s .opcode) .listed) 0 9) 24
-
--- an answer to a delivery as one number: 0, or the fault's number plus 256 times its part
-abbrev pub deliveryCode : Decoded → List ℕ → ℕ
-deliveryCode (Read t) buffer = cond (ltb (length buffer) 29) 23 0
-deliveryCode (NotRead r) buffer = r .number + 256 * r .part
-
--- the answer that such a number stands for, at a place and with the next one
-unfoldable pub codeAnswer : ℕ → ℕ → ℕ → Answer
-codeAnswer code place next =
-    cond (eqb code 0) (answered 0 next) (refused (refusal (code % 256) place (code / 256 % 256)) place)
 
 -- ---- encode
 

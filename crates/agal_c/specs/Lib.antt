@@ -3,3 +3,4 @@ pub mod Values
 pub mod Flat
 pub mod Calls
 pub mod ReadBack
+pub mod computed

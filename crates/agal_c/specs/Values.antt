@@ -2,7 +2,7 @@
 use Prim.Native.Nat.{ℕ}
 use mathlib.Core.Bool.{cond}
 use lib.Dec.{eqb}
-use Rattle.layout.specs.Records.{signed, directOf}
+use Rattle.layout.specs.Records.{signed}
 use Rattle.bytecode.specs.Encode.{unsigned}
 use Rattle.layout.specs.declared.record.Destination.{Destination}
 use Rattle.layout.specs.declared.record.Destination.the-variants.{Unused as NoDestination, Masked}
@@ -36,12 +36,6 @@ operandValues (Direct s) =
 operandValues (Indexed s) =
     values 2 (s .number) (s .offset) (s .swizzle) (s .kind) (s .«index_kind») (s .component) 0 0
 operandValues (Sampled s) = samplerValues s
-
--- a form, and the values of a source's field: a direct and an indexed source have the same rows
-abbrev pub sourceValues : ℕ → ℕ → Values
-sourceValues form field =
-    let s = directOf field in
-    values form (s .number) (s .offset) (s .swizzle) (s .kind) (s .«index_kind») (s .component) 0 0
 
 -- ---- to a record; a value that it does not have is not looked at
 

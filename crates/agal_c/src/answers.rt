@@ -1,7 +1,8 @@
 // What the exported functions answer, as C reads it: `include/agal.h` has the same struct.
 ghost use mathlib.Core.Path.{_≡_};
 ghost use Rattle.agal_c.specs.Answers.{answered as answeredOf, refused as refusedOf};
-ghost use Rattle.agal_c.specs.Calls.{codeAnswer, encodedAnswer, printedAnswer};
+ghost use Rattle.agal_c.specs.Calls.{encodedAnswer, printedAnswer};
+ghost use Rattle.agal_c.specs.computed.Delivery.{codeAnswer};
 use bytecode::answers::Encoded;
 use bytecode::answers::Refusal;
 use listing::answers::Printed;

@@ -2,7 +2,7 @@
 -- Assumes nothing.
 use borrow.Author.Needs.{needs}
 use borrow.Author.Tests.{eq-eqb, ne-eqb}
-use Rattle.agal_c.specs.Calls.{codeAnswer}
+use Rattle.agal_c.specs.computed.Delivery.{codeAnswer}
 use Rattle.agal_c.proofs.answers.delivered.Statement.{statement}
 use Rattle.agal_c.proofs.answers.delivered.Tie as tie
 

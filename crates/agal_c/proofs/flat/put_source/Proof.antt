@@ -10,7 +10,7 @@ use lib.ListN.{length, set, length-set}
 use denote.Ref.{now}
 use borrow.Author.Needs.{needs}
 use Rattle.layout.specs.Layout.{sourceRows, definedBits, isStray}
-use Rattle.agal_c.specs.Values.{sourceValues}
+use Rattle.agal_c.specs.computed.Delivery.{sourceValues}
 use Rattle.bytecode.specs.computed.Stored.{withBytes, afterWord}
 use Rattle.bytecode.proofs.Stored.{stored-within, length-after-word}
 use Rattle.agal_c.specs.Flat.{operandBytes}
