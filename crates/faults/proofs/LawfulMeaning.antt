@@ -18,7 +18,6 @@ use Rattle.faults.specs.computed.Faults.{refusalAt}
 use Rattle.faults.specs.Lawful.{Lawful}
 use Rattle.faults.specs.computed.LawfulTests.{LawfulWith, LawfulUnder, usableOf}
 use Rattle.bytecode.specs.Fields.{recordOf}
-use Rattle.faults.specs.Order.{}
 use Rattle.faults.specs.computed.Profile.{profileOf}
 use Rattle.faults.specs.declared.lawful.Usable.{Usable}
 use Rattle.faults.specs.declared.profile.Profile.{Profile}
