@@ -1,6 +1,6 @@
 -- The turns of the check's loop: each goes on with a state from which the same last state is reached.
 -- Assumes nothing.
-use Prim.Native.Nat.{ℕ, _+_, _-_, _≤_, _<_}
+use Prim.Native.Nat.{ℕ, _+_, _-_, _≤_}
 use mathlib.Core.List.{List}
 use mathlib.Core.Path.{_≡_, refl, _∙_, sym, ap, subst}
 use native.Mathlib.Omega.{arith}
@@ -8,6 +8,7 @@ use Rattle.bytecode.specs.Fields.{fieldsOf}
 use Rattle.layout.specs.Programs.{tokenAt}
 use Rattle.layout.specs.declared.fields.Fields.{Fields}
 use Rattle.layout.specs.declared.opcodes.Flow.{Flow}
+use Rattle.components.specs.declared.written.Written.{Written}
 use Rattle.faults.specs.declared.lawful.Usable.{Usable}
 use Rattle.faults.specs.declared.profile.Profile.{Profile}
 use Rattle.verifier.specs.computed.Glance.{RunsOver, branchStep, KnownBranch, CanJudge}
@@ -38,9 +39,9 @@ module _ (profile : Profile) (usable : Usable) (bytes : List ℕ) (count : ℕ) 
 
   -- a turn: a run of tokens that are passed at a glance, from a state and a token that are reached
   module _ (can : CanJudge profile usable bytes count) (before : State) (first : ℕ) (at : Reached before first)
-      (r : Run) (over : RunsOver profile usable (before .current) bytes first count r) where
+      (r : Run) (over : RunsOver profile usable (before .current) bytes first count r) (current : Written) (same : current ≡ r .current) where
     abbrev st : State
-    st = withCurrent before (r .current)
+    st = withCurrent before current
 
     abbrev n : ℕ
     n = r .token
@@ -51,16 +52,16 @@ module _ (profile : Profile) (usable : Usable) (bytes : List ℕ) (count : ℕ) 
           within = over .to;
           sound = at .sound;
           leads = leads-on profile bytes count last before first n (over .from) (over .to) (at .leads) st
-              (subst (λ p. stepsOver p bytes before first (n - first) ≡ st) (sym (can .made)) (over .steps (profile .edition) (profile .stage) (can .made) (can .used) before (at .sound) refl));
+              (subst (λ p. stepsOver p bytes before first (n - first) ≡ st) (sym (can .made)) (over .steps (profile .edition) (profile .stage) (can .made) (can .used) before (at .sound) refl ∙ ap (withCurrent before) (sym same)));
         }
 
     -- and then one token more, by its fields as the code reads them
-    module _ (inside : n < count) (f : Fields) (read : f ≡ fieldsOf (tokenAt bytes n)) where
+    module _ (inside : n + 1 ≤ count) (f : Fields) (read : f ≡ fieldsOf (tokenAt bytes n)) where
       reaches : (next : State) → next ≡ stepOf st profile n f → Leads profile bytes count last next (n + 1)
-      reaches next e = leads-by-step profile bytes count last st n inside (after-run .leads) next (ap (stepOf st profile n) (sym read) ∙ sym e)
+      reaches next e = leads-by-step profile bytes count last st n (omega (arith, inside)) (after-run .leads) next (ap (stepOf st profile n) (sym read) ∙ sym e)
 
       pub after-step : (next : State) → next ≡ stepOf st profile n f → next .fault .number ≡ 0 → Reached next (n + 1)
-      after-step next e z = record { within = omega (arith, inside); sound = z; leads = reaches next e }
+      after-step next e z = record { within = inside; sound = z; leads = reaches next e }
 
       pub refused-at : (next : State) → next ≡ stepOf st profile n f → (next .fault .number ≡ 0 → ⊥) → next ≡ last
       refused-at next e z = sym (stays profile bytes next z (n + 1) (count - (n + 1))) ∙ reaches next e

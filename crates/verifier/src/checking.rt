@@ -13,6 +13,7 @@ use crate::glance;
 use crate::places;
 use crate::state;
 use crate::state::State;
+use components::written;
 use faults::lawful::Usable;
 use faults::profile::Profile;
 use layout::opcodes;
@@ -59,47 +60,47 @@ fn check_tokens(edition: u32, bytes: &[u8]) -> Checked
     last_state(profile, usable, bytes, count).finish(stage, count)
 }
 
-// The state after so many tokens, or after the first of them that has a fault. What a branch's token does is chosen here and not in one method
-// for all: the compiler then changes the state in its place, where it would copy it into the method and out again.
+// The state after so many tokens, or after the first of them that has a fault. Only an opener that is known at a glance puts the innermost
+// branch away here, in its place: a method that writes to an array copies the state twice.
 fn last_state(profile: Profile, usable: Usable, bytes: &[u8], count: usize) -> State
     requires { ⌜ CanJudge profile usable (now bytes) count ⌝ }
     ensures { λ r. ⌜ r ≡ stepsOver profile (now (bytes .entry)) startState 0 count ⌝ }
 {
     let mut state = state::START;
     let mut token = 0;
-    while token < count {
+    loop {
         let run = glance::pass_tokens(profile, usable, state.current, bytes, token, count);
-        let current = run.current;
-        state.current = current;
-        token = run.token;
-        if count <= token {
-            continue;
-        }
-        let f = places::fields_at(bytes, token);
-        let number = token as u16;
-        token += 1;
-        let known = glance::known_branch(profile, usable, state.depth, state.innermost, current, f);
-        match known {
-            Flow::Opener => {
-                state = state.opened(number);
-                continue;
-            }
-            Flow::Els => {
-                state = state.exchanged();
-                continue;
-            }
-            Flow::Eif => {
-                state = state.joined();
-                continue;
-            }
-            Flow::Plain => {}
-        }
-        state = state.step(profile, number, f);
-        if state.fault.number != 0 {
+        state.current = written::by_halves(run.current);
+        token = run.token + 1;
+        if count < token {
             return state;
         }
+        let f = places::fields_at(bytes, run.token);
+        let innermost = state.innermost;
+        match glance::known_branch(profile, usable, state.depth, innermost, state.current, f) {
+            Flow::Opener => {
+                let place = state::slot(state.depth);
+                let kept = innermost.kept;
+                state.kept[place] = kept;
+                state.openers[place] = innermost.opener;
+                state.els_met[place] = innermost.els_met;
+                state = state.entered(run.token as u16);
+            }
+            Flow::Els => state = state.exchanged(),
+            Flow::Eif => {
+                let place = state::slot_around(state.depth);
+                let kept = state.kept[place];
+                state = state.closed(kept, state.openers[place], state.els_met[place]);
+            }
+            Flow::Plain => {
+                let next = state.step(profile, run.token as u16, f);
+                if next.fault.number != 0 {
+                    return next;
+                }
+                state = next;
+            }
+        }
     }
-    state
 }
 
 impl State {

@@ -5,7 +5,7 @@ ghost use mathlib.Core.Bool.{cond};
 ghost use mathlib.Core.Path.{_≡_};
 ghost use Prim.Native.Nat.{_<_};
 ghost use Rattle.layout.specs.Records.{destinationOf};
-ghost use Rattle.verifier.specs.computed.State.{slotOf, slotAround, isOutOfPlace, setMet, withFault, exchangedState, joinedState, metState, openedState, partedState, writtenBy, wroteState};
+ghost use Rattle.verifier.specs.computed.State.{slotOf, slotAround, isOutOfPlace, setMet, branch, withFault, exchangedState, closedState, joinedState, metState, enteredState, openedState, partedState, writtenBy, wroteState};
 use bytecode::answers::Refusal;
 use components::written;
 use components::written::Written;
@@ -51,14 +51,14 @@ pub const START: State = State {
 };
 
 // Where the innermost of so many open branches is put when another is opened in it. Every number has a place.
-fn slot(depth: usize) -> usize
+pub(crate) fn slot(depth: usize) -> usize
     ensures { λ r. ⌜ (r ≡ slotOf depth) × (r < 16) ⌝ }
 {
     (depth % 16 + 15) % 16
 }
 
 // Where the branch around it stands.
-fn slot_around(depth: usize) -> usize
+pub(crate) fn slot_around(depth: usize) -> usize
     ensures { λ r. ⌜ (r ≡ slotAround depth) × (r < 16) ⌝ }
 {
     (depth % 16 + 14) % 16
@@ -112,9 +112,9 @@ impl State {
     pub(crate) fn exchanged(mut self) -> State
         ensures { λ r. ⌜ r ≡ exchangedState self ⌝ }
     {
-        let current = self.current;
+        let current = written::by_halves(self.current);
         let innermost = self.innermost;
-        let kept = innermost.kept;
+        let kept = written::by_halves(innermost.kept);
         let in_second = Branch {
             kept: current,
             opener: innermost.opener,
@@ -125,19 +125,29 @@ impl State {
         self
     }
 
-    pub(crate) fn joined(mut self) -> State
+    pub(crate) fn joined(self) -> State
         ensures { λ r. ⌜ r ≡ joinedState self ⌝ }
+    {
+        let place = slot_around(self.depth);
+        let kept = self.kept[place];
+        let opener = self.openers[place];
+        let els_met = self.els_met[place];
+        self.closed(kept, opener, els_met)
+    }
+
+    // The sets of both blocks are joined, and the branch around this one, which is handed in, is the innermost again.
+    pub(crate) fn closed(mut self, kept: Written, opener: u16, els_met: u8) -> State
+        ensures { λ r. ⌜ r ≡ closedState self (branch kept opener «els_met») ⌝ }
     {
         let current = self.current;
         let innermost = self.innermost;
-        let kept = innermost.kept;
-        let both = written::join(current, kept);
-        let place = slot_around(self.depth);
-        let kept_around = self.kept[place];
+        let other = innermost.kept;
+        let both = written::join(current, other);
+        let kept = written::by_halves(kept);
         let around = Branch {
-            kept: kept_around,
-            opener: self.openers[place],
-            els_met: self.els_met[place],
+            kept,
+            opener,
+            els_met,
         };
         self.current = both;
         self.innermost = around;
@@ -161,12 +171,19 @@ impl State {
         ensures { λ r. ⌜ r ≡ openedState self token ⌝ }
     {
         let place = slot(self.depth);
-        let current = self.current;
         let innermost = self.innermost;
         let kept = innermost.kept;
         self.kept[place] = kept;
         self.openers[place] = innermost.opener;
         self.els_met[place] = innermost.els_met;
+        self.entered(token)
+    }
+
+    // A branch is opened, and the set at hand is kept for its other side. The one that was innermost was put away before.
+    pub(crate) fn entered(mut self, token: u16) -> State
+        ensures { λ r. ⌜ r ≡ enteredState self token ⌝ }
+    {
+        let current = written::by_halves(self.current);
         let opened = Branch {
             kept: current,
             opener: token,

@@ -22,11 +22,11 @@ element-write-self c = search needs
 element-write-self-2 : tie.Need-element-write-self-2
 element-write-self-2 c = search needs
 
-add-self : tie.Need-add-self
-add-self c = search needs
+entered-requires : tie.Need-entered-requires
+entered-requires c κs = search needs
 
 returns : tie.Need-returns
-returns c = simp (c .before .before .before .slot .ensures .0)
+returns c = simp (c .entered .ensures, c .before .before .before .slot .ensures .0)
 
 pub opened-spec : {M : Type 1} → statement M
 opened-spec =
@@ -38,5 +38,5 @@ opened-spec =
     mul-self
     element-write-self
     element-write-self-2
-    add-self
+    entered-requires
     returns)
