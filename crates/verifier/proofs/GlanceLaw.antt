@@ -3,7 +3,7 @@
 use Prim.Native.Nat.{ℕ, _+_, _-_, _≤_}
 use mathlib.Core.Bool.{Bool, true, false, false≢true}
 use mathlib.Core.List.{List}
-use mathlib.Core.Path.{_≡_, refl, _∙_, sym, ap, ap₂}
+use mathlib.Core.Path.{_≡_, refl, _∙_, sym, ap, ap₂, subst}
 use native.Mathlib.Omega.{arith}
 use borrow.Author.Tests.{eq-eqb}
 use Rattle.bytecode.specs.Decode.{noRefusal}
@@ -29,7 +29,7 @@ use Rattle.faults.specs.declared.lawful.Usable.{Usable}
 use Rattle.faults.specs.declared.profile.Profile.{Profile}
 use Rattle.faults.proofs.LawfulBranch.{LawfulBranch, lawful-branch}
 use Rattle.faults.proofs.LawfulToken.{LawfulToken}
-use Rattle.verifier.specs.computed.Glance.{passedUnless, Whenever, Passes, opensUnwritten, branchStep, KnownBranch}
+use Rattle.verifier.specs.computed.Glance.{passedUnless, Whenever, Passes, opensUnwritten, knownUnless, branchStep, KnownBranch}
 use Rattle.verifier.specs.computed.State.{isOutOfPlace, isMisplaced, metState, partedState, withCurrent, writtenBy, wroteState}
 use Rattle.verifier.specs.computed.Step.{faultOfFields, followOf, stepOf}
 use Rattle.verifier.specs.computed.Steps.{stepsOver}
@@ -118,8 +118,8 @@ module _ (f : Fields) (test : Profile → Usable → Bool) (unwritten : Written 
       (law edition stage (ap₂ test (sym of) (sym (used ∙ ap usableOf of)) ∙ sym tells ∙ holds))
       current asked asks r made known st sound at token
 
--- what the code answers of a branch: its flow, where it is lawful, in its place and reads nothing unwritten
-pub branch-known : (profile : Profile) (usable : Usable) (depth : ℕ) (innermost : Branch) (current : Written) (f : Fields) (flow : Flow)
+-- a branch that is lawful, in its place and reads nothing unwritten
+branch-known : (profile : Profile) (usable : Usable) (depth : ℕ) (innermost : Branch) (current : Written) (f : Fields) (flow : Flow)
     → isLawfulBranch profile usable f ≡ true → flow ≡ flowOf (f .opcode) → isOutOfPlace flow depth (innermost .«els_met») ≡ false → opensUnwritten flow current f ≡ false
     → KnownBranch profile usable depth innermost current f flow
 branch-known profile usable depth innermost current f flow lawful is m l edition stage of used st sound at deep inner token =
@@ -131,6 +131,17 @@ branch-known profile usable depth innermost current f flow lawful is m l edition
     by-flow Opener e = e
     by-flow Els e = e
     by-flow Eif e = e
+
+-- what the code answers of a branch: its flow, unless it may have a fault
+pub branch-unless : (profile : Profile) (usable : Usable) (depth : ℕ) (innermost : Branch) (current : Written) (f : Fields) (flow : Flow)
+    → isLawfulBranch profile usable f ≡ true → flow ≡ flowOf (f .opcode)
+    → (fault : Bool) → (fault ≡ false → (isOutOfPlace flow depth (innermost .«els_met») ≡ false) × (opensUnwritten flow current f ≡ false))
+    → (r : Flow) → r ≡ knownUnless fault flow → KnownBranch profile usable depth innermost current f r
+branch-unless profile usable depth innermost current f flow lawful is true right r e =
+    subst (KnownBranch profile usable depth innermost current f) (sym e) (λ edition stage of used st sound at deep inner token. tt)
+branch-unless profile usable depth innermost current f flow lawful is false right r e =
+    subst (KnownBranch profile usable depth innermost current f) (sym e)
+    (branch-known profile usable depth innermost current f flow lawful is (right refl .0) (right refl .1))
 
 -- ---- a run of tokens
 

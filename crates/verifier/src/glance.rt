@@ -4,7 +4,7 @@ ghost use mathlib.Core.Bool.{true, false};
 ghost use mathlib.Core.Path.{_≡_};
 ghost use Prim.Native.Nat.{_*_, _+_, _≤_};
 ghost use lib.ListN.{length};
-ghost use Rattle.verifier.specs.computed.Glance.{Passes, passedUnless, RunsOver, opensUnwritten, KnownBranch};
+ghost use Rattle.verifier.specs.computed.Glance.{Passes, passedUnless, RunsOver, knownUnless, KnownBranch};
 use crate::places;
 use crate::state;
 use crate::state::Branch;
@@ -120,24 +120,21 @@ pub(crate) fn known_branch(
     if !faults::is_lawful_branch(profile, usable, f) {
         return Flow::Plain;
     }
-    let flow = opcodes::flow_of(f.opcode);
-    if state::is_misplaced(flow, depth, innermost.els_met) {
-        return Flow::Plain;
+    let els_met = innermost.els_met;
+    match opcodes::flow_of(f.opcode) {
+        Flow::Plain => Flow::Plain,
+        Flow::Opener => known_unless(
+            state::is_misplaced(Flow::Opener, depth, els_met)
+                | quick::opener_may_read_unwritten(current, f),
+            Flow::Opener,
+        ),
+        Flow::Els => known_unless(state::is_misplaced(Flow::Els, depth, els_met), Flow::Els),
+        Flow::Eif => known_unless(state::is_misplaced(Flow::Eif, depth, els_met), Flow::Eif),
     }
-    if reads_unwritten(flow, current, f) {
-        return Flow::Plain;
-    }
-    flow
 }
 
-// Whether the token of a branch that has no fault of its own reads what is not written. Openers alone read.
-fn reads_unwritten(flow: Flow, current: Written, f: Fields) -> bool
-    ensures { λ r. ⌜ r ≡ opensUnwritten flow current f ⌝ }
+fn known_unless(fault: bool, flow: Flow) -> Flow
+    ensures { λ r. ⌜ r ≡ knownUnless fault flow ⌝ }
 {
-    match flow {
-        Flow::Plain => false,
-        Flow::Opener => quick::opener_may_read_unwritten(current, f),
-        Flow::Els => false,
-        Flow::Eif => false,
-    }
+    if fault { Flow::Plain } else { flow }
 }

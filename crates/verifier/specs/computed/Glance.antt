@@ -51,6 +51,11 @@ opensUnwritten Opener current f = openerMayReadUnwritten current f
 opensUnwritten Els current f = false
 opensUnwritten Eif current f = false
 
+-- what a token does to branches, Plain where it may have a fault
+abbrev pub knownUnless : Bool → Flow → Flow
+knownUnless true flow = Plain
+knownUnless false flow = flow
+
 -- what the token of a branch makes of a state
 abbrev pub branchStep : Flow → State → ℕ → State → Type 0
 branchStep Plain st token next = Unit {0}
