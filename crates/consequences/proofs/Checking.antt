@@ -11,7 +11,8 @@ use Rattle.paths.specs.Paths.{PathToken, Visit, visited}
 use Rattle.paths.specs.Nesting.{Closes}
 use Rattle.paths.proofs.WrittenEarlier.{written-earlier}
 use Rattle.faults.specs.Order.{tokensOf}
-use Rattle.verifier.specs.Verdict.{program, checkedNumbers}
+use Rattle.verifier.specs.Verdict.{program}
+use Rattle.verifier.specs.Numbers.{checkedNumbers}
 use Rattle.verifier.specs.Exact.{Exact}
 use Rattle.verifier.specs.declared.answers.Program.{Program}
 use Rattle.verifier.specs.declared.answers.Checked.{Checked}

@@ -13,7 +13,7 @@ use Rattle.paths.specs.Faults.{tokenFaultAt}
 use Rattle.paths.specs.Trees.{Block, BlockFits, blockTokens, blockDepth, walk, Cut, cutWalk, cutDepth, CutHasBranch}
 use Rattle.paths.specs.Adequate.{TreeOf, visitsUpTo}
 use Rattle.faults.specs.Order.{tokensOf}
-use Rattle.verifier.specs.Verdict.{checkedNumbers}
+use Rattle.verifier.specs.Numbers.{checkedNumbers}
 use Rattle.verifier.specs.Exact.{HeaderRight, Checks}
 use Rattle.verifier.specs.declared.answers.Program.{Program}
 use Rattle.verifier.specs.declared.answers.Checked.{Checked}

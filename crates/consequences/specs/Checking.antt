@@ -7,7 +7,7 @@ use Rattle.bytecode.specs.Numbers.{NotRefused, refusedNumbers}
 use Rattle.paths.specs.Paths.{Source, opener, PathToken, Path, Visit, visited}
 use Rattle.paths.specs.Nesting.{eifOf}
 use Rattle.faults.specs.Order.{tokensOf}
-use Rattle.verifier.specs.Verdict.{checkedNumbers}
+use Rattle.verifier.specs.Numbers.{checkedNumbers}
 use Rattle.verifier.specs.Exact.{Exact, Demand3, Checks}
 use Rattle.verifier.specs.BenchCases.{Case, benchCases}
 use Rattle.verifier.specs.declared.answers.Program.{Program}

@@ -17,7 +17,8 @@ use Rattle.paths.specs.Faults.{tokenFaultAt, Clean, Faultless}
 use Rattle.layout.specs.Programs.{stageOf, tokenCount, tokenAt}
 use Rattle.bytecode.specs.Fields.{recordOf}
 use Rattle.faults.specs.Order.{firstFault, headerRules, tokenRules, tokensFrom, tokensOf}
-use Rattle.verifier.specs.Verdict.{program, verdict, checkedNumbers}
+use Rattle.verifier.specs.Verdict.{program, verdict}
+use Rattle.verifier.specs.Numbers.{checkedNumbers}
 use Rattle.verifier.specs.Exact.{HeaderRight}
 use Rattle.verifier.specs.Accepted.{WholeTokens, AcceptedDecodes}
 use Rattle.verifier.specs.declared.answers.Program.{Program}

@@ -18,7 +18,8 @@ use Rattle.paths.proofs.ExactVerdict.{exact}
 use Rattle.paths.proofs.PathDemand.{demand3}
 use Rattle.layout.specs.Programs.{stageOf, tokenCount, tokenAt}
 use Rattle.faults.specs.Order.{firstFault, headerRules, tokensFrom, tokensOf}
-use Rattle.verifier.specs.Verdict.{answerOf, afterHeader, verdict, checkedNumbers}
+use Rattle.verifier.specs.Verdict.{answerOf, afterHeader, verdict}
+use Rattle.verifier.specs.Numbers.{checkedNumbers}
 use Rattle.verifier.specs.Exact.{HeaderRight, Exact, Demand3, Checks}
 use Rattle.verifier.specs.declared.answers.Checked.{Checked}
 use Rattle.verifier.specs.declared.answers.Checked.the-variants.{Refused}

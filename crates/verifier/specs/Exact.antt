@@ -13,7 +13,8 @@ use Rattle.paths.specs.Nesting.{Closes}
 use Rattle.paths.specs.Faults.{Faultless, FirstFault, FirstUnwritten}
 use Rattle.layout.specs.Programs.{stageOf, tokenCount}
 use Rattle.faults.specs.Order.{firstFault, headerRules, tokensOf}
-use Rattle.verifier.specs.Verdict.{verdict, checkedNumbers}
+use Rattle.verifier.specs.Verdict.{verdict}
+use Rattle.verifier.specs.Numbers.{checkedNumbers}
 use Rattle.verifier.specs.declared.answers.Checked.{Checked}
 use Rattle.verifier.specs.declared.answers.Checked.the-variants.{Refused}
 

@@ -4,7 +4,6 @@ use Prim.Native.Nat.{ℕ}
 use mathlib.Core.List.{List}
 use mathlib.Core.Option.{Option, none, some}
 use Rattle.bytecode.specs.Decode.{refusal}
-use Rattle.bytecode.specs.Numbers.{Numbers, acceptedNumbers, refusalNumbers}
 use Rattle.paths.specs.Paths.{TokenFault}
 use Rattle.paths.specs.Faults.{Answer, accepted, refused}
 use Rattle.paths.specs.computed.Check.{verdictOf}
@@ -30,8 +29,3 @@ afterHeader (some f) later = Refused (refusal (f .number) 0 (f .part))
 unfoldable pub verdict : ℕ → List ℕ → Checked
 verdict edition bytes =
     afterHeader (firstFault (headerRules edition bytes)) (answerOf bytes (verdictOf (tokensOf edition bytes)))
-
--- the paper's numbers of an answer: "accepted with stage and token count, or a refusal number, a token number from 0, and a part"
-abbrev pub checkedNumbers : Checked → Numbers
-checkedNumbers (Accepted p) = acceptedNumbers (p .stage) (p .tokens)
-checkedNumbers (Refused r) = refusalNumbers r
