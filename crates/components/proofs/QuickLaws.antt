@@ -5,7 +5,7 @@ use mathlib.Core.Bool.{Bool, true, false, cond, true≢false}
 use mathlib.Core.Path.{_≡_, refl, sym, ap, ap₂, subst, fun-ext, _∙_}
 use lib.Dec.{eqb, eqb→eq}
 use Rattle.laws.proofs.Every.{neither}
-use Rattle.layout.specs.Opcodes.{tex, openers, isMatrix, isOpener, rowCount2, holds, rowOf, shapeOfRow, shapeOf}
+use Rattle.layout.specs.Opcodes.{kil, tex, openers, isMatrix, isOpener, rowCount2, holds, rowOf, shapeOfRow, shapeOf}
 use Rattle.layout.specs.Records.{registerOf, directOf, isIndexed, indexedOf, samplerOf, sourceOf, operandOf, tokenOf}
 use Rattle.layout.specs.computed.Sets.{namedSet, selectorSet1, selectorSet2, readSet2}
 use Rattle.layout.specs.declared.fields.Fields.{Fields}
@@ -17,9 +17,9 @@ use Rattle.layout.proofs.OpcodeSets.{outside-matrices, one-row, by-selectors}
 use Rattle.layout.proofs.SourceKinds.{indexed-source, direct-source}
 use Rattle.paths.specs.computed.Check.{lacks}
 use Rattle.components.specs.computed.Access.{lacksAccess, lacksSome, indexAccess, directAccess, selectedAccess, accessThrough, access1Of, access2Of}
-use Rattle.components.specs.computed.QuickTests.{mayLack, mayReadUnwritten, matrixMayReadUnwritten, texMayReadUnwritten, indexedMayReadUnwritten, openerMayReadUnwritten}
+use Rattle.components.specs.computed.QuickTests.{mayLack, mayReadUnwritten, matrixMayReadUnwritten, texMayReadUnwritten, indexedMayReadUnwritten, openerLacks, openerMayReadUnwritten, kilMayReadUnwritten}
 use Rattle.components.specs.Reads.{dimensionOf, reads1, reads2, temporaries}
-use Rattle.components.specs.computed.ReadsWritten.{ReadsWritten, OrdinaryReads, MatrixReads, TexReads, IndexedReads, OpenerReads}
+use Rattle.components.specs.computed.ReadsWritten.{ReadsWritten, OrdinaryReads, MatrixReads, TexReads, IndexedReads, OpenerReads, KilReads}
 use Rattle.components.specs.computed.Written.{componentSet}
 use Rattle.components.specs.declared.written.Written.{Written}
 use Rattle.components.proofs.AccessFields.{source-dimension}
@@ -31,16 +31,30 @@ with-meaning Means r b e m = (e, subst Means (sym e) m)
 
 -- ---- one source
 
--- what a source does not lack, it does not read unwritten
-pub none-lacking : (s : Written) (rows : ℕ) (components : ℕ → ℕ) (field : ℕ) → mayLack s rows field ≡ false
+-- What a source does not lack, it does not read unwritten. An indexed one is asked for its index; what is asked of a direct one says no only
+-- where that is so.
+none-lacking : (s : Written) (rows : ℕ) (components : ℕ → ℕ) (field : ℕ) (asked : Bool)
+    → (asked ≡ false → lacksAccess s (directAccess rows components (directOf field)) ≡ false)
+    → cond (isIndexed field) (lacksAccess s (indexAccess (indexedOf field))) asked ≡ false
     → lacksAccess s (accessThrough rows components (sourceOf field)) ≡ false
-unfolding mayLack
-none-lacking s rows components field e = go (isIndexed field) refl e
+none-lacking s rows components field asked direct e = go (isIndexed field) refl e
   where
-    go : (b : Bool) → isIndexed field ≡ b → cond b (lacksAccess s (indexAccess (indexedOf field))) (lacksSome s rows (directOf field)) ≡ false
+    go : (b : Bool) → isIndexed field ≡ b → cond b (lacksAccess s (indexAccess (indexedOf field))) asked ≡ false
         → lacksAccess s (accessThrough rows components (sourceOf field)) ≡ false
     go true i l = ap (λ o. lacksAccess s (accessThrough rows components o)) (indexed-source field i) ∙ l
-    go false i l = ap (λ o. lacksAccess s (accessThrough rows components o)) (direct-source field i) ∙ sym (none-missing s rows components (directOf field) l)
+    go false i l = ap (λ o. lacksAccess s (accessThrough rows components o)) (direct-source field i) ∙ direct l
+
+-- all four components are asked for
+none-at-all : (s : Written) (rows : ℕ) (components : ℕ → ℕ) (field : ℕ) → mayLack s rows field ≡ false
+    → lacksAccess s (accessThrough rows components (sourceOf field)) ≡ false
+unfolding mayLack
+none-at-all s rows components field =
+    none-lacking s rows components field _ (λ l. sym (none-missing s rows components (directOf field) l))
+
+-- or those that all four selectors name
+none-by-four : (s : Written) (field : ℕ) → openerLacks s field ≡ false → lacksAccess s (accessThrough 1 (λ z. namedSet z 15) (sourceOf field)) ≡ false
+unfolding openerLacks
+none-by-four s field = none-lacking s 1 (λ z. namedSet z 15) field _ (λ l. l)
 
 -- through a field that holds a direct source, or none
 through-direct : (s : Written) (rows : ℕ) (components : ℕ → ℕ) (shape : OperandShape) (field : ℕ) → isIndexed field ≡ false
@@ -53,7 +67,7 @@ through-direct s rows components Sampler field i l = refl
 through-either : (s : Written) (rows : ℕ) (components : ℕ → ℕ) (shape : OperandShape) (field : ℕ) → mayLack s rows field ≡ false
     → lacksAccess s (accessThrough rows components (operandOf shape field)) ≡ false
 through-either s rows components Unused field l = refl
-through-either s rows components Source field l = none-lacking s rows components field l
+through-either s rows components Source field l = none-at-all s rows components field l
 through-either s rows components Sampler field l = refl
 
 no-dimension : (shape : OperandShape) → isSampler shape ≡ false → (field : ℕ) → dimensionOf (operandOf shape field) ≡ 0
@@ -88,14 +102,13 @@ module _ (s : Written) (f : Fields) where
       → lacksAccess s (access1Of (tokenOf (holds true Source shape2) f)) ≡ false
   direct-first shape2 n k i l = reads-first shape2 n k (through-direct s 1 (λ z. namedSet z (selectorSet1 o mask n)) Source (f .source1) i l)
 
-  -- through a direct source 2 of one row, by the mask m
-  second-selected : isMatrix o ≡ false → (m : ℕ) (shape2 : OperandShape) → isIndexed (f .source2) ≡ false
-      → lacksAccess s (selectedAccess (selectorSet2 o m) (directOf (f .source2))) ≡ false
+  -- through source 2 of one row, by the mask m
+  second-selected : isMatrix o ≡ false → (m : ℕ) (shape2 : OperandShape)
+      → lacksAccess s (accessThrough 1 (λ z. namedSet z (selectorSet2 o m)) (operandOf shape2 (f .source2))) ≡ false
       → lacksAccess s (accessThrough (rowCount2 o) (readSet2 o m) (operandOf shape2 (f .source2))) ≡ false
-  second-selected not-matrix m shape2 i l =
+  second-selected not-matrix m shape2 l =
       let single = outside-matrices o not-matrix in
-      ap₂ (λ n c. lacksAccess s (accessThrough n c (operandOf shape2 (f .source2)))) (one-row o single) (fun-ext (λ z. by-selectors o single m z))
-      ∙ through-direct s 1 (λ z. namedSet z (selectorSet2 o m)) shape2 (f .source2) i l
+      ap₂ (λ n c. lacksAccess s (accessThrough n c (operandOf shape2 (f .source2)))) (one-row o single) (fun-ext (λ z. by-selectors o single m z)) ∙ l
 
   pub ordinary-reads : OrdinaryReads (mayReadUnwritten s f) s f
   unfolding mayReadUnwritten tokenOf
@@ -106,7 +119,7 @@ module _ (s : Written) (f : Fields) where
       let (l, r) = neither (lacksAccess s (selectedAccess (selectorSet1 o mask 0) (directOf (f .source1)))) (lacksAccess s (selectedAccess (selectorSet2 o mask) (directOf (f .source2)))) e in
       reads-by (holds true Source shape2) whole
       (direct-first shape2 0 (no-dimension shape2 not-sampler (f .source2)) (direct .0) l)
-      (second-selected (p .matrix) mask shape2 (direct .1) r)
+      (second-selected (p .matrix) mask shape2 (through-direct s 1 (λ z. namedSet z (selectorSet2 o mask)) shape2 (f .source2) (direct .1) r))
 
   pub matrix-reads : MatrixReads (matrixMayReadUnwritten s f) s f
   unfolding matrixMayReadUnwritten tokenOf
@@ -134,13 +147,13 @@ module _ (s : Written) (f : Fields) where
       let shape2 = shapeOf o .source2 in
       let (l, r) = neither (mayLack s 1 (f .source1)) (mayLack s (rowCount2 o) (f .source2)) e in
       reads-by (holds true Source shape2) whole
-      (reads-first shape2 0 (no-dimension shape2 not-sampler (f .source2)) (none-lacking s 1 (λ z. namedSet z (selectorSet1 o mask 0)) (f .source1) l))
+      (reads-first shape2 0 (no-dimension shape2 not-sampler (f .source2)) (none-at-all s 1 (λ z. namedSet z (selectorSet1 o mask 0)) (f .source1) l))
       (through-either s (rowCount2 o) (readSet2 o mask) shape2 (f .source2) r)
 
   -- an opener has no mask, and reads by all four selectors
-  all-four1 : isOpener o ≡ true → selectorSet1 o 0 0 ≡ 15
+  all-four1 : isOpener o ≡ true → (n : ℕ) → selectorSet1 o 0 n ≡ 15
   unfolding selectorSet1
-  all-four1 is = eqb→eq (selectorSet1 o 0 0) 15 (each openers (λ o. eqb (selectorSet1 o 0 0) 15) tt o is)
+  all-four1 is n = eqb→eq (selectorSet1 o 0 n) 15 (each openers (λ o. eqb (selectorSet1 o 0 n) 15) tt o is)
 
   all-four2 : isOpener o ≡ true → selectorSet2 o 0 ≡ 15
   unfolding selectorSet2
@@ -148,9 +161,17 @@ module _ (s : Written) (f : Fields) where
 
   pub opener-reads : OpenerReads (openerMayReadUnwritten s f) s f
   unfolding openerMayReadUnwritten tokenOf
-  opener-reads e is direct =
-      let (l, r) = neither (lacksAccess s (selectedAccess 15 (directOf (f .source1)))) (lacksAccess s (selectedAccess 15 (directOf (f .source2)))) e in
+  opener-reads e is =
+      let (l, r) = neither (openerLacks s (f .source1)) (openerLacks s (f .source2)) e in
+      let by : ℕ → ℕ → Bool = λ field selectors. lacksAccess s (accessThrough 1 (λ z. namedSet z selectors) (sourceOf field)) in
       reads-by (branchShape true) (opener-shape o is)
-      (ap (λ n. lacksAccess s (accessThrough 1 (λ z. namedSet z (selectorSet1 o 0 n)) (sourceOf (f .source1)))) (source-dimension (f .source2))
-      ∙ through-direct s 1 (λ z. namedSet z (selectorSet1 o 0 0)) Source (f .source1) (direct .0) (ap (λ c. lacksAccess s (selectedAccess c (directOf (f .source1)))) (all-four1 is) ∙ l))
-      (second-selected (none-of openers isMatrix tt o is) 0 Source (direct .1) (ap (λ c. lacksAccess s (selectedAccess c (directOf (f .source2)))) (all-four2 is) ∙ r))
+      (ap (by (f .source1)) (all-four1 is (dimensionOf (sourceOf (f .source2)))) ∙ none-by-four s (f .source1) l)
+      (second-selected (none-of openers isMatrix tt o is) 0 Source (ap (by (f .source2)) (all-four2 is) ∙ none-by-four s (f .source2) r))
+
+  -- kil reads by the first
+  pub kil-reads : KilReads (kilMayReadUnwritten s f) s f
+  unfolding kilMayReadUnwritten tokenOf rowOf shapeOfRow selectorSet1
+  kil-reads e is direct =
+      reads-by (holds false Source Unused) (ap shapeOf is)
+      (through-direct s 1 (λ z. namedSet z (selectorSet1 o 0 0)) Source (f .source1) direct (ap (λ o. lacksAccess s (selectedAccess (selectorSet1 o 0 0) (directOf (f .source1)))) is ∙ e))
+      refl

@@ -92,6 +92,8 @@ cases =
     ∷ (token 0x00 (to 0 0xf) (indexed 0 1 0) NoOperand, ([], [], 0 ∷ 1 ∷ 2 ∷ 3 ∷ []))
     -- ife vt1.xxxx vt2.xyzw: all four selectors of both
     ∷ (token 0x1c NoDestination (from 2 1 0x00) (from 2 2 0xe4), (4 ∷ [], 8 ∷ 9 ∷ 10 ∷ 11 ∷ [], []))
+    -- ifg vc[vt1.w+3].xyzw vt2.yyyy: of an indexed one the index
+    ∷ (token 0x1e NoDestination (indexed 2 1 3) (from 2 2 0x55), (7 ∷ [], 9 ∷ [], []))
     -- els
     ∷ (token 0x20 NoDestination NoOperand NoOperand, ([], [], []))
     ∷ []

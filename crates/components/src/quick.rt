@@ -1,8 +1,8 @@
 // Quick tests for lawful tokens, which have none of faults 9 to 19: whether such a token may read what is not written. Each says yes of every
 // token that does. Those of matrices and indexed sources ask for all four components, and so may say yes of one that does not.
 ghost use mathlib.Core.Path.{_≡_};
-ghost use Rattle.components.specs.computed.QuickTests.{mayReadUnwritten, matrixMayReadUnwritten, texMayReadUnwritten, mayLack, indexedMayReadUnwritten, openerMayReadUnwritten};
-ghost use Rattle.components.specs.computed.ReadsWritten.{OrdinaryReads, MatrixReads, TexReads, IndexedReads, OpenerReads};
+ghost use Rattle.components.specs.computed.QuickTests.{mayReadUnwritten, matrixMayReadUnwritten, texMayReadUnwritten, mayLack, indexedMayReadUnwritten, openerLacks, openerMayReadUnwritten, kilMayReadUnwritten};
+ghost use Rattle.components.specs.computed.ReadsWritten.{OrdinaryReads, MatrixReads, TexReads, IndexedReads, OpenerReads, KilReads};
 use crate::access;
 use crate::written::Written;
 use layout::fields::Fields;
@@ -58,10 +58,25 @@ fn may_lack(current: Written, rows: u8, field: u64) -> bool
     access::lacks_some(current, rows, field)
 }
 
-// The same of an opener with two direct sources, each of which is read by all four selectors.
+// The same of an opener, each of whose sources may be indexed; a direct one is read by all four selectors.
 pub fn opener_may_read_unwritten(current: Written, f: Fields) -> bool
     ensures { λ r. ⌜ (r ≡ openerMayReadUnwritten current f) × OpenerReads r current f ⌝ }
 {
-    access::direct_lacks(current, f.source1, selection::ALL_FOUR)
-        | access::direct_lacks(current, f.source2, selection::ALL_FOUR)
+    opener_lacks(current, f.source1) | opener_lacks(current, f.source2)
+}
+
+fn opener_lacks(current: Written, field: u64) -> bool
+    ensures { λ r. ⌜ r ≡ openerLacks current field ⌝ }
+{
+    if layout::is_indexed(field) {
+        return access::index_unwritten(current, field);
+    }
+    access::direct_lacks(current, field, selection::ALL_FOUR)
+}
+
+// The same of kil, which reads by the first selector of source 1.
+pub fn kil_may_read_unwritten(current: Written, f: Fields) -> bool
+    ensures { λ r. ⌜ (r ≡ kilMayReadUnwritten current f) × KilReads r current f ⌝ }
+{
+    access::direct_lacks(current, f.source1, selection::FIRST)
 }

@@ -1,123 +1,96 @@
 -- The token of a branch that the test tells as lawful has no fault of fields and none of faults 10 to 19, and reads what its fields tell.
 -- Assumes nothing.
 use Prim.Native.Nat.{ℕ}
-use mathlib.Core.Bool.{Bool, true, false, not, cond, _&&_, and-false, false≢true}
-use mathlib.Core.List.{[], _∷_, _++_}
+use mathlib.Core.Bool.{Bool, true, false, not, cond, _&&_, false≢true}
+use mathlib.Core.List.{_++_}
 use mathlib.Core.Path.{_≡_, refl, _∙_, ap, sym, subst}
+use native.Mathlib.Omega.{arith}
 use lib.Dec.{eqb}
 use borrow.Author.Tests.{ne-eqb, eqb-true, eqb-false, not-true}
-use Rattle.laws.proofs.Every.{left, right, neither}
-use Rattle.bytecode.specs.computed.CleanFields.{isClean}
-use Rattle.bytecode.proofs.DecodeLaws.{Clean, is-clean}
-use Rattle.layout.specs.Layout.{isStray}
-use Rattle.layout.specs.Opcodes.{isIn, kil, tex, openers, bareOpcodes, isFragmentOnly, isMatrix, isOpener, shapeOf, flowOf}
+use Rattle.laws.proofs.Every.{left, right}
+use Rattle.layout.specs.Opcodes.{openers, bareOpcodes, isFragmentOnly, isMatrix, isOpener, shapeOf, flowOf}
 use Rattle.layout.specs.computed.Groups.{isBranch, sourceShape}
-use Rattle.layout.specs.Records.{directOf, destinationOf, operandOf, tokenOf}
-use Rattle.layout.specs.Swizzles.{selectorsAgree}
+use Rattle.layout.specs.Records.{directOf, tokenOf}
 use Rattle.layout.specs.declared.fields.Fields.{Fields}
 use Rattle.layout.specs.declared.opcodes.Flow.the-variants.{Opener}
-use Rattle.layout.specs.declared.opcodes.OperandShape.the-variants.{Unused, Source}
-use Rattle.layout.specs.declared.record.Destination.the-variants.{Unused as NoDestination}
+use Rattle.layout.specs.declared.opcodes.OperandShape.the-variants.{Source}
 use Rattle.layout.proofs.OpcodeLists.{none-of, branchShape, branch-shape, opener-flow}
 use Rattle.layout.proofs.OpcodeSets.{one-row, outside-matrices}
 use Rattle.paths.specs.computed.Check.{lacks}
 use Rattle.components.specs.computed.QuickTests.{openerMayReadUnwritten}
 use Rattle.components.specs.Reads.{reads1, reads2, temporaries}
-use Rattle.components.specs.computed.ReadsWritten.{ReadsWritten, BothDirect}
+use Rattle.components.specs.computed.ReadsWritten.{ReadsWritten}
 use Rattle.components.specs.computed.Written.{componentSet}
 use Rattle.components.specs.declared.written.Written.{Written}
 use Rattle.components.proofs.QuickLaws.{opener-reads}
-use Rattle.faults.specs.Rules.{opcodeTooNew, opcodeNotForStage}
-use Rattle.faults.specs.computed.Profile.{profileOf, countIn}
-use Rattle.faults.specs.Order.{firstFault, sourceRules}
-use Rattle.faults.specs.computed.Faults.{numberOf, swizzleWrong}
-use Rattle.faults.specs.computed.LawfulTests.{isLawfulSource, isLawfulBranch}
-use Rattle.faults.specs.declared.profile.Profile.{Profile}
-use Rattle.faults.proofs.LawfulOperands.{LawfulSource, is-direct, lawful-second}
-use Rattle.faults.proofs.LawfulToken.{NoOwnFault, no-own-fault}
+use Rattle.faults.specs.Rules.{opcodeTooNew}
+use Rattle.faults.specs.computed.Profile.{profileOf}
+use Rattle.faults.specs.computed.Faults.{swizzleWrong}
+use Rattle.faults.specs.computed.LawfulTests.{isLawfulEither, isLawfulBranch}
+use Rattle.faults.proofs.LawfulOpcodes.{no-stage, no-selectors}
+use Rattle.faults.proofs.LawfulOperands.{LawfulSource, no-destination, no-source, lawful-either}
+use Rattle.faults.proofs.LawfulToken.{ToldLawful, together}
 use Rattle.faults.proofs.UsableCounts.{usableIn}
 
 module _ (edition stage : ℕ) (f : Fields) where
   abbrev o : ℕ
   o = f .opcode
 
-  abbrev profile : Profile
-  profile = profileOf edition stage
+  -- an opener has its test of what it reads; els and eif read nothing
+  abbrev Enough : Written → Type 0
+  Enough s = flowOf o ≡ Opener → openerMayReadUnwritten s f ≡ false
 
   -- what is shown of a branch
-  pub record LawfulBranch : Type 0 where
-    pub clean : isClean (shapeOf o) f ≡ true
-    pub right : NoOwnFault profile (tokenOf (shapeOf o) f)
-    pub destination : tokenOf (shapeOf o) f .destination ≡ NoDestination
-    pub reads : (s : Written) → (flowOf o ≡ Opener → openerMayReadUnwritten s f ≡ false) → ReadsWritten s f
+  abbrev pub LawfulBranch : Type 0
+  LawfulBranch = ToldLawful edition stage true false Enough f
 
-  -- els and eif read nothing
   bare-reads : shapeOf o ≡ branchShape false → (s : Written) → ReadsWritten s f
   unfolding tokenOf
   bare-reads whole s = subst (λ x. (lacks (componentSet s) (temporaries (reads1 (tokenOf x f))) ≡ false) × (lacks (componentSet s) (temporaries (reads2 (tokenOf x f))) ≡ false)) (sym whole) (refl, refl)
 
-  branch-reads : (opener : Bool) → isOpener o ≡ opener → shapeOf o ≡ branchShape opener → BothDirect f
-      → (s : Written) → (flowOf o ≡ Opener → openerMayReadUnwritten s f ≡ false) → ReadsWritten s f
-  branch-reads true is whole direct s unless = opener-reads s f (unless (opener-flow o is)) is direct
-  branch-reads false is whole direct s unless = bare-reads whole s
+  branch-reads : (opener : Bool) → isOpener o ≡ opener → shapeOf o ≡ branchShape opener → (s : Written) → Enough s → ReadsWritten s f
+  branch-reads true is whole s enough = opener-reads s f (enough (opener-flow o is)) is
+  branch-reads false is whole s enough = bare-reads whole s
 
   -- from what is shown of its two sources
   by-shape : isBranch o ≡ true → (opener : Bool) → isOpener o ≡ opener → shapeOf o ≡ branchShape opener → (edition ≡ 1 → ⊥) → f .destination ≡ 0
-      → LawfulSource edition stage (sourceShape opener) 1 (f .source1) → LawfulSource edition stage (sourceShape opener) 1 (f .source2) → BothDirect f → LawfulBranch
-  unfolding tokenOf
-  by-shape branch opener is whole later none first second direct =
-      record {
-        clean = is-clean (shapeOf o) f (subst (λ s. Clean s f) (sym whole) (record { listed = refl; destination = ap (isStray 0) none; source1 = first .defined; source2 = second .defined }));
-        right = subst (λ s. NoOwnFault profile (tokenOf s f)) (sym whole)
-            (no-own-fault profile (tokenOf (branchShape opener) f) new for-stage refl refl
-            (first .right (swizzleWrong false o) (ap (λ b. b && not (selectorsAgree (directOf (f .source1) .swizzle))) (neither (eqb o kil) (isIn o (tex ∷ [])) fragment .0)))
-            (ap (λ n. numberOf (firstFault (sourceRules (countIn profile) stage n (swizzleWrong true o) 0 (operandOf (sourceShape opener) (f .source2))))) (one-row o (outside-matrices o matrix))
-            ∙ second .right (swizzleWrong true o) (ap (λ b. b && not (eqb (directOf (f .source2) .swizzle) 0xe4)) matrix)));
-        destination = ap (λ s. destinationOf (s .destination) (f .destination)) whole;
-        reads = branch-reads opener is whole direct;
-      }
-    where
-      fragment : isFragmentOnly o ≡ false
-      fragment = none-of (openers ++ bareOpcodes) isFragmentOnly tt o branch
+      → LawfulSource edition stage (sourceShape opener) 1 (f .source1) → LawfulSource edition stage (sourceShape opener) 1 (f .source2) → LawfulBranch
+  by-shape branch opener is whole later none first second =
+      let fragment = none-of (openers ++ bareOpcodes) isFragmentOnly tt o branch in
+      let matrix = none-of (openers ++ bareOpcodes) isMatrix tt o branch in
+      let new : opcodeTooNew edition o ≡ false = rw (ne-eqb edition 1 later) in
+      let through = subst (λ n. LawfulSource edition stage (sourceShape opener) n (f .source2)) (sym (one-row o (outside-matrices o matrix))) second in
+      together edition stage f (sourceShape opener) whole (no-destination edition stage o (f .destination) none) first branch new (no-stage edition stage o fragment) (no-selectors edition stage o fragment (directOf (f .source1) .swizzle))
+      (through .defined) (through .right (swizzleWrong true o) (ap (λ b. b && not (eqb (directOf (f .source2) .swizzle) 0xe4)) matrix)) Enough (branch-reads opener is whole)
 
-      matrix : isMatrix o ≡ false
-      matrix = none-of (openers ++ bareOpcodes) isMatrix tt o branch
-
-      new : opcodeTooNew edition o ≡ false
-      new = rw (ne-eqb edition 1 later)
-
-      for-stage : opcodeNotForStage stage o ≡ false
-      for-stage = ap (λ b. eqb stage 0 && b) fragment ∙ and-false (eqb stage 0)
-
+  -- the test of a source, by whether the token is an opener
   abbrev source : Bool → ℕ → Bool
-  source opener field = isLawfulSource (usableIn edition stage .readable) opener 1 field
+  source opener field = cond opener (isLawfulEither (usableIn edition stage) true 1 field) (eqb field 0)
 
   abbrev tests : Bool → Bool
   tests opener = not (eqb edition 1) && eqb (f .destination) 0 && source opener (f .source1) && source opener (f .source2)
 
   lawful-source : (opener : Bool) (field : ℕ) → source opener field ≡ true → LawfulSource edition stage (sourceShape opener) 1 field
-  lawful-source true field e = lawful-second edition stage Source field refl e
-  lawful-source false field e = lawful-second edition stage Unused field refl e
+  lawful-source true field e = lawful-either edition stage 1 field (omega arith) Source refl e
+  lawful-source false field e = no-source edition stage 1 field (eqb-true field 0 e)
 
-  when-branch : isBranch o ≡ true → (opener : Bool) → isOpener o ≡ opener → shapeOf o ≡ branchShape opener → tests opener ≡ true → LawfulBranch
-  when-branch branch opener is whole e =
+  when-branch : isBranch o ≡ true → (opener : Bool) → isOpener o ≡ opener → tests opener ≡ true → LawfulBranch
+  when-branch branch opener is e =
       let later = not (eqb edition 1) in
       let none = eqb (f .destination) 0 in
       let first = source opener (f .source1) in
       let second = source opener (f .source2) in
       let three = left (later && none && first) second e in
       let two = left (later && none) first three in
-      let one = right (later && none) first three in
-      let other = right (later && none && first) second e in
-      let readable = usableIn edition stage .readable in
-      by-shape branch opener is whole (eqb-false edition 1 (not-true (eqb edition 1) (left later none two))) (eqb-true (f .destination) 0 (right later none two))
-      (lawful-source opener (f .source1) one) (lawful-source opener (f .source2) other)
-      (is-direct readable opener 1 (f .source1) one, is-direct readable opener 1 (f .source2) other)
+      by-shape branch opener is (branch-shape o branch ∙ ap branchShape is)
+      (eqb-false edition 1 (not-true (eqb edition 1) (left later none two))) (eqb-true (f .destination) 0 (right later none two))
+      (lawful-source opener (f .source1) (right (later && none) first three)) (lawful-source opener (f .source2) (right (later && none && first) second e))
 
-  pub lawful-branch : isLawfulBranch profile (usableIn edition stage) f ≡ true → LawfulBranch
+  pub lawful-branch : isLawfulBranch (profileOf edition stage) (usableIn edition stage) f ≡ true → LawfulBranch
   unfolding isLawfulBranch
-  lawful-branch e = go (isBranch o) refl e
+  lawful-branch e = go (isBranch o) (isOpener o) refl refl e
     where
-      go : (b : Bool) → isBranch o ≡ b → cond (not b) false (tests (isOpener o)) ≡ true → LawfulBranch
-      go true l k = when-branch l (isOpener o) refl (branch-shape o l) k
-      go false l k = absurd (false≢true k)
+      go : (b opener : Bool) → isBranch o ≡ b → isOpener o ≡ opener → cond (not b) false (cond opener (tests true) (tests false)) ≡ true → LawfulBranch
+      go true true l is k = when-branch l true is k
+      go true false l is k = when-branch l false is k
+      go false opener l is k = absurd (false≢true k)

@@ -13,6 +13,7 @@ use Rattle.layout.specs.Opcodes.{shapeOf}
 use Rattle.layout.specs.Records.{tokenOf}
 use Rattle.layout.specs.declared.fields.Fields.{Fields}
 use Rattle.paths.specs.Paths.{TokenFault}
+use Rattle.components.specs.declared.written.Written.{Written}
 use Rattle.registers.specs.Counts.{countOf}
 use Rattle.faults.specs.computed.Faults.{refusalAt}
 use Rattle.faults.specs.Lawful.{Lawful}
@@ -21,7 +22,7 @@ use Rattle.bytecode.specs.Fields.{recordOf}
 use Rattle.faults.specs.computed.Profile.{profileOf}
 use Rattle.faults.specs.declared.lawful.Usable.{Usable}
 use Rattle.faults.specs.declared.profile.Profile.{Profile}
-use Rattle.faults.proofs.LawfulToken.{NoOwnFault}
+use Rattle.faults.proofs.LawfulToken.{NoOwnFault, ToldLawful}
 use Rattle.faults.proofs.OwnFault.{token-numbered, taken-fault}
 use Rattle.faults.proofs.UsableCounts.{usableIn}
 
@@ -30,11 +31,11 @@ no-rule none numbered e = refl
 no-rule (some f) numbered e = absurd (omega (arith, numbered f refl, ap (λ r. r .number) e))
 
 -- no fault of fields, and none of 10 to 19
-pub none-broken : (edition stage : ℕ) (f : Fields) → isClean (shapeOf (f .opcode)) f ≡ true → NoOwnFault (profileOf edition stage) (tokenOf (shapeOf (f .opcode)) f) → Lawful edition stage f
-none-broken edition stage f clean right s h e =
+pub none-broken : (edition stage : ℕ) (f : Fields) {branch used : Bool} {Enough : Written → Type 0} → ToldLawful edition stage branch used Enough f → Lawful edition stage f
+none-broken edition stage f p s h e =
     let fields = fieldsOf s in
-    let clean-here = subst (λ g. isClean (shapeOf (g .opcode)) g ≡ true) (sym e) clean in
-    let right-here = subst (λ g. NoOwnFault (profileOf edition stage) (tokenOf (shapeOf (g .opcode)) g)) (sym e) right in
+    let clean-here = subst (λ g. isClean (shapeOf (g .opcode)) g ≡ true) (sym e) (p .clean) in
+    let right-here = subst (λ g. NoOwnFault (profileOf edition stage) (tokenOf (shapeOf (g .opcode)) g)) (sym e) (p .right) in
     let no-fault = clean-none (shapeOf (fields .opcode)) fields (clean-by (shapeOf (fields .opcode)) fields clean-here) in
     let taken = no-faults s h (ap (λ r. r .number) no-fault) in
     no-rule _ (λ f k. token-numbered (λ k. countOf k edition stage) edition stage s f k .0)

@@ -6,7 +6,7 @@ use mathlib.Core.List.{[], _∷_}
 use mathlib.Core.Path.{_≡_, refl, _∙_, ap, sym, subst}
 use native.Mathlib.Omega.{arith}
 use lib.Dec.{eqb, leb, leb→le}
-use borrow.Author.Tests.{eqb-true, not-true}
+use borrow.Author.Tests.{ne-eqb, eqb-true, not-true}
 use Rattle.laws.proofs.Every.{left, right, neither}
 use Rattle.layout.specs.Opcodes.{isIn, kil, tex, matrixOpcodes, isAdded, isFragmentOnly, isMatrix, shapeOf, rowCount2}
 use Rattle.layout.specs.computed.Groups.{isBranch, isOrdinary}
@@ -29,11 +29,19 @@ pub record LawfulOpcode (edition stage o : ℕ) : Type 0 where
   pub swizzle2 : (z : ℕ) → (eqb (rowCount2 o) 1 || eqb z 0xe4) ≡ true → swizzleWrong true o z ≡ false
 
 module _ (edition stage o : ℕ) where
+  -- 10 says nothing of opcodes that edition 1 has
+  pub no-edition : isAdded o ≡ false → opcodeTooNew edition o ≡ false
+  no-edition e = ap (λ b. eqb edition 1 && b) e ∙ and-false (eqb edition 1)
+
+  -- 11 says nothing of a fragment program
+  pub in-fragment : eqb stage 1 ≡ true → opcodeNotForStage stage o ≡ false
+  in-fragment e = rw (ne-eqb stage 0 (λ z. omega (arith, z, eqb-true stage 1 e)))
+
   -- 11 and, of source 1, 18 say nothing of opcodes that are neither kil nor tex
-  no-stage : isFragmentOnly o ≡ false → opcodeNotForStage stage o ≡ false
+  pub no-stage : isFragmentOnly o ≡ false → opcodeNotForStage stage o ≡ false
   no-stage e = ap (λ b. eqb stage 0 && b) e ∙ and-false (eqb stage 0)
 
-  no-selectors : isFragmentOnly o ≡ false → (z : ℕ) → swizzleWrong false o z ≡ false
+  pub no-selectors : isFragmentOnly o ≡ false → (z : ℕ) → swizzleWrong false o z ≡ false
   no-selectors e z = ap (λ b. b && not (selectorsAgree z)) (neither (eqb o kil) (isIn o (tex ∷ [])) e .0)
 
   pub known-ordinary : amongOf (ordinarySet edition) o ≡ true → isOrdinary o ≡ true
@@ -61,7 +69,7 @@ module _ (edition stage o : ℕ) where
         kind = ap (λ b. isOrdinary o || b) m ∙ or-true (isOrdinary o);
         shape = subst FirstShape (sym (matrix-shape o m)) (refl, refl);
         flow = none-of matrixOpcodes isBranch tt o m;
-        new = ap (λ b. eqb edition 1 && b) (none-of matrixOpcodes isAdded tt o m) ∙ and-false (eqb edition 1);
+        new = no-edition (none-of matrixOpcodes isAdded tt o m);
         for-stage = no-stage fragment;
         rows = leb→le 1 (rowCount2 o) (each matrixOpcodes (λ o. leb 1 (rowCount2 o)) tt o m);
         swizzle1 = no-selectors fragment;

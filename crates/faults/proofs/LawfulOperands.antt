@@ -69,17 +69,17 @@ module _ (edition stage : ℕ) where
       let (u, l) = below-used (used kind stage) n (countOf kind edition stage) (subst (λ c. n < c) e h) in
       (u, subst (λ c. n < c kind) (sym (counts-are edition stage)) l)
 
-  -- what is shown of a destination and of a source
-  pub record LawfulDestination (opcode field : ℕ) : Type 0 where
-    pub defined : isStray (destinationBits true) field ≡ false
-    pub right : destinationWrong (countIn profile) stage (destinationOf true field) ≡ false
-    pub mask : maskWrong opcode (destinationOf true field) ≡ false
+  -- what is shown of a destination, used or not, and of a source
+  pub record LawfulDestination (used : Bool) (opcode field : ℕ) : Type 0 where
+    pub defined : isStray (destinationBits used) field ≡ false
+    pub right : destinationWrong (countIn profile) stage (destinationOf used field) ≡ false
+    pub mask : maskWrong opcode (destinationOf used field) ≡ false
 
   pub record LawfulSource (shape : OperandShape) (rows field : ℕ) : Type 0 where
     pub defined : isStray (operandBits shape) field ≡ false
     pub right : NoSourceFault profile rows field (operandOf shape field)
 
-  pub lawful-destination : (opcode field : ℕ) → isLawfulDestination (usableIn edition stage .writable) opcode field ≡ true → LawfulDestination opcode field
+  pub lawful-destination : (opcode field : ℕ) → isLawfulDestination (usableIn edition stage .writable) opcode field ≡ true → LawfulDestination true opcode field
   unfolding isLawfulDestination
   lawful-destination opcode field e =
       let kind = valueOf layout.maskedKind field in
@@ -96,6 +96,13 @@ module _ (edition stage : ℕ) where
         right = rw (u, lt-leb (countIn profile kind) number l);
         mask = not-true wrong (right (kept && low) (not wrong) e);
       }
+
+  -- fields that are not used, and are 0
+  pub no-destination : (opcode field : ℕ) → field ≡ 0 → LawfulDestination false opcode field
+  no-destination opcode field e = record { defined = ap (isStray 0) e; right = refl; mask = refl }
+
+  pub no-source : (rows field : ℕ) → field ≡ 0 → LawfulSource Unused rows field
+  no-source rows field e = record { defined = ap (isStray 0) e; right = λ swizzled h. refl }
 
   -- a source that is used, of one row or more
   pub lawful-direct : (rows field : ℕ) → 1 ≤ rows → isLawfulSource (usableIn edition stage .readable) true rows field ≡ true → LawfulSource Source rows field

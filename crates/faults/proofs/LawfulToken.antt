@@ -1,24 +1,23 @@
 -- A lawful token, as the tests tell it, has no fault of fields and none of faults 10 to 19, and reads what its fields tell.
 -- Assumes nothing.
 use Prim.Native.Nat.{ℕ}
-use mathlib.Core.Bool.{Bool, true, false, not, cond, _&&_, _||_, and-false, or-true, false≢true}
+use mathlib.Core.Bool.{Bool, true, false, not, cond, _&&_, _||_, or-true, false≢true}
 use mathlib.Core.Path.{_≡_, refl, _∙_, ap, sym, subst}
 use native.Mathlib.Omega.{arith}
 use lib.Dec.{eqb}
-use borrow.Author.Tests.{ne-eqb, eqb-true, not-true}
+use borrow.Author.Tests.{eqb-true, not-true}
 use Rattle.laws.proofs.Every.{left, right}
 use Rattle.bytecode.specs.Decode.{noRefusal}
 use Rattle.bytecode.specs.computed.CleanFields.{isClean}
 use Rattle.bytecode.proofs.DecodeLaws.{Clean, is-clean}
 use Rattle.layout.specs.Layout as layout
 use Rattle.layout.specs.Layout.{valueOf, isStray, operandBits}
-use Rattle.layout.specs.Opcodes.{tex, isMatrix, rowOf, shapeOfRow, shapeOf, holds, rowCount2}
+use Rattle.layout.specs.Opcodes.{tex, isAdded, isMatrix, rowOf, shapeOfRow, shapeOf, holds, rowCount2}
 use Rattle.layout.specs.computed.Groups.{isBranch}
-use Rattle.layout.specs.Records.{isIndexed, directOf, registerOf, operandOf, destinationOf, samplerOf, tokenOf}
+use Rattle.layout.specs.Records.{isIndexed, directOf, operandOf, destinationOf, samplerOf, tokenOf}
 use Rattle.layout.specs.declared.fields.Fields.{Fields}
 use Rattle.layout.specs.declared.opcodes.OperandShape.{OperandShape}
 use Rattle.layout.specs.declared.opcodes.OperandShape.the-variants.{Source, Sampler}
-use Rattle.layout.specs.declared.record.Destination.the-variants.{Masked}
 use Rattle.layout.specs.declared.record.Token.{Token}
 use Rattle.layout.specs.computed.Sets.{amongOf, ordinarySet}
 use Rattle.components.specs.computed.QuickTests.{mayReadUnwritten, matrixMayReadUnwritten, texMayReadUnwritten}
@@ -33,7 +32,7 @@ use Rattle.faults.specs.Order.{firstFault, sourceRules}
 use Rattle.faults.specs.computed.Faults.{numberOf, swizzleWrong, ownFault}
 use Rattle.faults.specs.computed.LawfulTests.{isSource, isLawfulDestination, isLawfulSource, isLawful, isLawfulMatrix, isLawfulTex}
 use Rattle.faults.specs.declared.profile.Profile.{Profile}
-use Rattle.faults.proofs.LawfulOpcodes.{LawfulOpcode, known-ordinary, ordinary-opcode, matrix-opcode}
+use Rattle.faults.proofs.LawfulOpcodes.{LawfulOpcode, no-edition, in-fragment, known-ordinary, ordinary-opcode, matrix-opcode}
 use Rattle.faults.proofs.LawfulOperands.{LawfulDestination, LawfulSource, is-direct, lawful-destination, lawful-direct, lawful-second}
 use Rattle.faults.proofs.UsableCounts.{usableIn, usable-opcodes}
 use Rattle.faults.proofs.FaultLaws.{staged}
@@ -54,14 +53,18 @@ module _ (edition stage : ℕ) where
   abbrev profile : Profile
   profile = profileOf edition stage
 
-  -- What is shown of a token that is told as lawful: it has no fault of fields and none of faults 10 to 19, no branch has to do with it, and
-  -- it reads nothing unwritten where the test that goes with it says so.
-  pub record LawfulToken (unwritten : Written → Fields → Bool) (f : Fields) : Type 0 where
-    pub flow : isBranch (f .opcode) ≡ false
+  -- What is shown of a token that is told as lawful: it has no fault of fields and none of faults 10 to 19; whether it is one of a branch,
+  -- and whether it has a destination; and it reads nothing unwritten of a set that is Enough.
+  pub record ToldLawful (branch used : Bool) (Enough : Written → Type 0) (f : Fields) : Type 0 where
+    pub flow : isBranch (f .opcode) ≡ branch
     pub clean : isClean (shapeOf (f .opcode)) f ≡ true
     pub right : NoOwnFault profile (tokenOf (shapeOf (f .opcode)) f)
-    pub destination : tokenOf (shapeOf (f .opcode)) f .destination ≡ Masked (registerOf (f .destination))
-    pub reads : (s : Written) → unwritten s f ≡ false → ReadsWritten s f
+    pub destination : tokenOf (shapeOf (f .opcode)) f .destination ≡ destinationOf used (f .destination)
+    pub reads : (s : Written) → Enough s → ReadsWritten s f
+
+  -- of one with a destination, where the test that goes with it says that it reads nothing unwritten
+  abbrev pub LawfulToken : (Written → Fields → Bool) → Fields → Type 0
+  LawfulToken unwritten f = ToldLawful false true (λ s. unwritten s f ≡ false) f
 
   module _ (f : Fields) where
     abbrev o : ℕ
@@ -75,16 +78,16 @@ module _ (edition stage : ℕ) where
 
     -- What is shown of a token from what is shown of its destination and of source 1, whatever source 2 is, by what is left to show of the
     -- opcode and of source 2.
-    pub together : (shape2 : OperandShape) → shapeOf o ≡ holds true Source shape2 → LawfulDestination edition stage o (f .destination)
-        → LawfulSource edition stage Source 1 (f .source1) → (unwritten : Written → Fields → Bool)
-        → isBranch o ≡ false → opcodeTooNew edition o ≡ false → opcodeNotForStage stage o ≡ false
+    pub together : {branch used : Bool} {shape1 : OperandShape} (shape2 : OperandShape) → shapeOf o ≡ holds used shape1 shape2
+        → LawfulDestination edition stage used o (f .destination) → LawfulSource edition stage shape1 1 (f .source1)
+        → isBranch o ≡ branch → opcodeTooNew edition o ≡ false → opcodeNotForStage stage o ≡ false
         → swizzleWrong false o (directOf (f .source1) .swizzle) ≡ false
         → isStray (operandBits shape2) (f .source2) ≡ false
         → numberOf (firstFault (sourceRules (countIn profile) stage (rowCount2 o) (swizzleWrong true o) 0 (operandOf shape2 (f .source2)))) ≡ 0
-        → ((s : Written) → unwritten s f ≡ false → ReadsWritten s f) → LawfulToken unwritten f
+        → (Enough : Written → Type 0) → ((s : Written) → Enough s → ReadsWritten s f) → ToldLawful branch used Enough f
     unfolding tokenOf
-    together shape2 whole into from unwritten flow new for-stage swizzle defined second reads =
-        let t = tokenOf (holds true Source shape2) f in
+    together {branch} {used} {shape1} shape2 whole into from flow new for-stage swizzle defined second Enough reads =
+        let t = tokenOf (holds used shape1 shape2) f in
         record {
           flow = flow;
           clean = is-clean (shapeOf o) f (subst (λ s. Clean s f) (sym whole) (record { listed = refl; destination = into .defined; source1 = from .defined; source2 = defined }));
@@ -95,15 +98,15 @@ module _ (edition stage : ℕ) where
 
     -- ---- with an ordinary opcode or a matrix: of both sources it is known that they are lawful
 
-    pub by-opcode : LawfulOpcode edition stage o → LawfulDestination edition stage o (f .destination) → LawfulSource edition stage Source 1 (f .source1)
+    pub by-opcode : LawfulOpcode edition stage o → LawfulDestination edition stage true o (f .destination) → LawfulSource edition stage Source 1 (f .source1)
         → LawfulSource edition stage (shapeOf o .source2) (rowCount2 o) (f .source2) → (eqb (rowCount2 o) 1 || eqb (valueOf layout.swizzle (f .source2)) 0xe4) ≡ true
         → (unwritten : Written → Fields → Bool) → ((s : Written) → unwritten s f ≡ false → ReadsWritten s f) → LawfulToken unwritten f
     by-opcode rules into from through unswizzled unwritten reads =
-        together (shapeOf o .source2) (rules .shape .0) into from unwritten (rules .flow) (rules .new) (rules .for-stage) (rules .swizzle1 (directOf (f .source1) .swizzle))
-        (through .defined) (through .right (swizzleWrong true o) (rules .swizzle2 (valueOf layout.swizzle (f .source2)) unswizzled)) reads
+        together (shapeOf o .source2) (rules .shape .0) into from (rules .flow) (rules .new) (rules .for-stage) (rules .swizzle1 (directOf (f .source1) .swizzle))
+        (through .defined) (through .right (swizzleWrong true o) (rules .swizzle2 (valueOf layout.swizzle (f .source2)) unswizzled)) (λ s. unwritten s f ≡ false) reads
 
     module _ (e : (destination && first) ≡ true) where
-      into : LawfulDestination edition stage o (f .destination)
+      into : LawfulDestination edition stage true o (f .destination)
       into = lawful-destination edition stage o (f .destination) (left destination first e)
 
       from : LawfulSource edition stage Source 1 (f .source1)
@@ -176,12 +179,12 @@ module _ (edition stage : ℕ) where
         let four = left (destination && first && eqb stage 1 && not stray) (not wrong) e in
         let three = left (destination && first && eqb stage 1) (not stray) four in
         let both = left (destination && first) (eqb stage 1) three in
-        let fragment = eqb-true stage 1 (right (destination && first) (eqb stage 1) three) in
         let right-sampler = not-true wrong (right (destination && first && eqb stage 1 && not stray) (not wrong) e) in
-        together Sampler (ap shapeOf is) (into both) (from both) texMayReadUnwritten (ap isBranch is) (ap (opcodeTooNew edition) is ∙ and-false (eqb edition 1)) (rw (ne-eqb stage 0 (λ z. omega (arith, z, fragment)))) (ap (λ o. swizzleWrong false o (directOf (f .source1) .swizzle)) is)
+        together Sampler (ap shapeOf is) (into both) (from both) (ap isBranch is) (no-edition edition stage o (ap isAdded is)) (in-fragment edition stage o (right (destination && first) (eqb stage 1) three))
+        (ap (λ o. swizzleWrong false o (directOf (f .source1) .swizzle)) is)
         (not-true stray (right (destination && first && eqb stage 1) (not stray) four))
         (rw right-sampler)
-        (λ s l. tex-reads s f l is (direct-first both))
+        (λ s. texMayReadUnwritten s f ≡ false) (λ s l. tex-reads s f l is (direct-first both))
 
     pub lawful-tex : isLawfulTex profile (usableIn edition stage) f ≡ true → LawfulToken texMayReadUnwritten f
     unfolding isLawfulTex

@@ -3,6 +3,7 @@ pub mod FaultLaws
 pub mod OwnFault
 pub mod LawfulBranch
 pub mod LawfulIndexed
+pub mod LawfulKil
 pub mod LawfulMeaning
 pub mod LawfulOpcodes
 pub mod LawfulOperands

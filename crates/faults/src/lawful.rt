@@ -2,7 +2,7 @@
 // of them; the others are judged rule by rule.
 ghost use mathlib.Core.Bool.{true};
 ghost use mathlib.Core.Path.{_≡_};
-ghost use Rattle.faults.specs.computed.LawfulTests.{usableOf, countAt, isSource, lawfulSourceBits, isLawfulDestination, isLawfulSource, isRightlyIndexed, isLawfulEither, isLawful, isLawfulMatrix, isLawfulTex, isLawfulIndexed, isLawfulBranch, LawfulWith, LawfulUnder};
+ghost use Rattle.faults.specs.computed.LawfulTests.{usableOf, countAt, isSource, lawfulSourceBits, isLawfulDestination, isLawfulSource, isRightlyIndexed, isLawfulEither, isLawful, isLawfulMatrix, isLawfulTex, isLawfulKil, isLawfulIndexed, isLawfulBranch, LawfulWith, LawfulUnder};
 use crate::profile::Profile;
 use crate::rules;
 use layout::bits;
@@ -95,6 +95,22 @@ pub fn is_lawful_tex(profile: Profile, usable: Usable, f: Fields) -> bool
         & !rules::sampler_wrong(profile, sampler)
 }
 
+// The same of kil, in a fragment program: a direct source whose selectors agree, and nothing else. A swizzle that repeats a selector is 0x55
+// times it.
+pub fn is_lawful_kil(profile: Profile, usable: Usable, f: Fields) -> bool
+    ensures { λ r. ⌜ (r ≡ isLawfulKil profile usable f) × (r ≡ true → LawfulUnder profile usable f) ⌝ }
+{
+    if f.opcode != opcodes::KIL {
+        return false;
+    }
+    let source = layout::unpack_direct(f.source1);
+    (profile.stage == 1)
+        & (f.destination == 0)
+        & (f.source2 == 0)
+        & is_lawful_source(usable.readable, true, 1, f.source1)
+        & (source.swizzle % 4 * 0x55 == source.swizzle)
+}
+
 // The same where each source may be indexed or direct, of a matrix too.
 pub fn is_lawful_indexed(usable: Usable, f: Fields) -> bool
     ensures { λ r. ⌜ (r ≡ isLawfulIndexed usable f) × (r ≡ true → LawfulWith usable f) ⌝ }
@@ -112,18 +128,20 @@ pub fn is_lawful_indexed(usable: Usable, f: Fields) -> bool
         & ((rows == 1) | (second.swizzle == 0xe4))
 }
 
-// The same of a branch, in an edition that has them: an opener with two direct sources, els, eif.
+// The same of a branch, in an edition that has them: an opener, each of whose sources may be indexed or direct, els or eif.
 pub fn is_lawful_branch(profile: Profile, usable: Usable, f: Fields) -> bool
     ensures { λ r. ⌜ (r ≡ isLawfulBranch profile usable f) × (r ≡ true → LawfulUnder profile usable f) ⌝ }
 {
     if !opcodes::is_branch(f.opcode) {
         return false;
     }
-    let opener = opcodes::is_opener(f.opcode);
-    (profile.edition != 1)
-        & (f.destination == 0)
-        & is_lawful_source(usable.readable, opener, 1, f.source1)
-        & is_lawful_source(usable.readable, opener, 1, f.source2)
+    let bare = (profile.edition != 1) & (f.destination == 0);
+    if opcodes::is_opener(f.opcode) {
+        return bare
+            & is_lawful_either(usable, true, 1, f.source1)
+            & is_lawful_either(usable, true, 1, f.source2);
+    }
+    bare & (f.source1 == 0) & (f.source2 == 0)
 }
 
 fn is_lawful_destination(writable: u64, opcode: u32, field: u64) -> bool

@@ -9,6 +9,7 @@ pub use header::header_fault;
 pub use lawful::is_lawful;
 pub use lawful::is_lawful_branch;
 pub use lawful::is_lawful_indexed;
+pub use lawful::is_lawful_kil;
 pub use lawful::is_lawful_matrix;
 pub use lawful::is_lawful_tex;
 pub use lawful::usable_of;

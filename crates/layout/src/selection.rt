@@ -21,7 +21,7 @@ const BY_FOUR_OF_SOURCE2: u64 = 0xF008_0000;
 // All that do not read source 1 by the mask: the first and the third set, kil and tex.
 const NOT_BY_MASK_OF_SOURCE1: u64 = 0x0180_F38E_4000;
 
-const FIRST: u8 = 1;
+pub const FIRST: u8 = 1;
 
 const FIRST_TWO: u8 = 3;
 

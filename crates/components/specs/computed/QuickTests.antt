@@ -32,6 +32,14 @@ mayLack s rows field = cond (isIndexed field) (lacksAccess s (indexAccess (index
 unfoldable pub indexedMayReadUnwritten : Written → Fields → Bool
 indexedMayReadUnwritten s f = mayLack s 1 (f .source1) || mayLack s (rowCount2 (f .opcode)) (f .source2)
 
--- and through the two direct sources of an opener, by all four selectors
+-- a source of an opener, indexed or direct, reads what is not written: a direct one is read by all four selectors
+unfoldable pub openerLacks : Written → ℕ → Bool
+openerLacks s field = cond (isIndexed field) (lacksAccess s (indexAccess (indexedOf field))) (lacksAccess s (selectedAccess 15 (directOf field)))
+
+-- and through two such sources
 unfoldable pub openerMayReadUnwritten : Written → Fields → Bool
-openerMayReadUnwritten s f = lacksAccess s (selectedAccess 15 (directOf (f .source1))) || lacksAccess s (selectedAccess 15 (directOf (f .source2)))
+openerMayReadUnwritten s f = openerLacks s (f .source1) || openerLacks s (f .source2)
+
+-- and through the one direct source of kil, by its first selector
+unfoldable pub kilMayReadUnwritten : Written → Fields → Bool
+kilMayReadUnwritten s f = lacksAccess s (selectedAccess 1 (directOf (f .source1)))

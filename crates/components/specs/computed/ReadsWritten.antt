@@ -2,7 +2,7 @@
 -- opcode and by D of the sources; the tests of faults 9 to 19 tell that a token is of that kind.
 use mathlib.Core.Bool.{Bool, true, false, _||_}
 use mathlib.Core.Path.{_≡_}
-use Rattle.layout.specs.Opcodes.{shapeOf, tex, isMatrix, isOpener}
+use Rattle.layout.specs.Opcodes.{shapeOf, kil, tex, isMatrix, isOpener}
 use Rattle.layout.specs.computed.Groups.{isOrdinary}
 use Rattle.layout.specs.Records.{isIndexed, tokenOf}
 use Rattle.layout.specs.declared.fields.Fields.{Fields}
@@ -37,6 +37,10 @@ TexReads r s f = r ≡ false → f .opcode ≡ tex → isIndexed (f .source1) �
 abbrev pub IndexedReads : Bool → Written → Fields → Type 0
 IndexedReads r s f = r ≡ false → (isOrdinary (f .opcode) || isMatrix (f .opcode)) ≡ true → ReadsWritten s f
 
--- an opener with direct sources
+-- an opener, whose sources may be indexed
 abbrev pub OpenerReads : Bool → Written → Fields → Type 0
-OpenerReads r s f = r ≡ false → isOpener (f .opcode) ≡ true → BothDirect f → ReadsWritten s f
+OpenerReads r s f = r ≡ false → isOpener (f .opcode) ≡ true → ReadsWritten s f
+
+-- kil with a direct source
+abbrev pub KilReads : Bool → Written → Fields → Type 0
+KilReads r s f = r ≡ false → f .opcode ≡ kil → isIndexed (f .source1) ≡ false → ReadsWritten s f

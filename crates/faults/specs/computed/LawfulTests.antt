@@ -7,7 +7,7 @@ use lib.Bits.{bitAnd}
 use lib.Dec.{eqb, ltb, leb}
 use Rattle.layout.specs.Layout as layout
 use Rattle.layout.specs.Layout.{valueOf, operandBits, isStray}
-use Rattle.layout.specs.Opcodes.{shapeOf, tex, isOpener, rowCount2}
+use Rattle.layout.specs.Opcodes.{shapeOf, kil, tex, isOpener, rowCount2}
 use Rattle.layout.specs.computed.Groups.{isBranch}
 use Rattle.layout.specs.Records.{isIndexed, destinationOf, samplerOf}
 use Rattle.layout.specs.computed.Sets.{amongOf, ordinarySet}
@@ -94,6 +94,19 @@ isLawfulTex p u f =
     && not (samplerWrong (countIn p) (samplerOf (f .source2))))
     false
 
+-- all four selectors are the first one
+abbrev pub repeatsFirst : ℕ → Bool
+repeatsFirst swizzle = eqb (swizzle % 4 * 0x55) swizzle
+
+-- with such a direct source, and nothing else
+unfoldable pub isLawfulKil : Profile → Usable → Fields → Bool
+isLawfulKil p u f =
+    cond (eqb (f .opcode) kil)
+    (eqb (p .stage) 1 && eqb (f .destination) 0 && eqb (f .source2) 0
+    && isLawfulSource (u .readable) true 1 (f .source1)
+    && repeatsFirst (valueOf layout.swizzle (f .source1)))
+    false
+
 -- each source indexed or direct; a matrix or not
 unfoldable pub isLawfulIndexed : Usable → Fields → Bool
 isLawfulIndexed u f =
@@ -103,13 +116,13 @@ isLawfulIndexed u f =
     && isLawfulEither u (isSource (shapeOf (f .opcode) .source2)) (rowCount2 (f .opcode)) (f .source2)
     && (eqb (rowCount2 (f .opcode)) 1 || eqb (valueOf layout.swizzle (f .source2)) 0xe4))
 
--- an opener with two direct sources, els or eif
+-- an opener, each source indexed or direct; els or eif with no source
 unfoldable pub isLawfulBranch : Profile → Usable → Fields → Bool
 isLawfulBranch p u f =
     cond (not (isBranch (f .opcode))) false
-    (not (eqb (p .edition) 1) && eqb (f .destination) 0
-    && isLawfulSource (u .readable) (isOpener (f .opcode)) 1 (f .source1)
-    && isLawfulSource (u .readable) (isOpener (f .opcode)) 1 (f .source2))
+    (cond (isOpener (f .opcode))
+    (not (eqb (p .edition) 1) && eqb (f .destination) 0 && isLawfulEither u true 1 (f .source1) && isLawfulEither u true 1 (f .source2))
+    (not (eqb (p .edition) 1) && eqb (f .destination) 0 && eqb (f .source1) 0 && eqb (f .source2) 0))
 
 -- ---- what the answer "yes" means: the token is lawful
 

@@ -16,7 +16,7 @@ returns : tie.Need-returns
 unfolding isLawful
 returns c =
     let a = c .before .before .args in
-    told-with (a .f) (λ u. isLawful u (a .f)) (λ edition stage e. none-broken edition stage (a .f) (lawful edition stage (a .f) e .clean) (lawful edition stage (a .f) e .right)) (a .usable) _ (
+    told-with (a .f) (λ u. isLawful u (a .f)) (λ edition stage e. none-broken edition stage (a .f) (lawful edition stage (a .f) e)) (a .usable) _ (
     simp (sym (c .before .among .ensures) ∙ not-true _ (c .if1 .taken))
     )
 
@@ -39,7 +39,7 @@ returns-2 : tie.Need-returns-2
 unfolding isLawful
 returns-2 c =
     let a = c .before .before .before .before .before .before .before .args in
-    told-with (a .f) (λ u. isLawful u (a .f)) (λ edition stage e. none-broken edition stage (a .f) (lawful edition stage (a .f) e .clean) (lawful edition stage (a .f) e .right)) (a .usable) _ (
+    told-with (a .f) (λ u. isLawful u (a .f)) (λ edition stage e. none-broken edition stage (a .f) (lawful edition stage (a .f) e)) (a .usable) _ (
     simp (
       sym (c .before .before .before .before .before .before .among .ensures) ∙ not-false _ (c .before .before .before .before .before .if1 .left),
       c .is-lawful-source2 .ensures,

@@ -15,27 +15,55 @@ returns : tie.Need-returns
 unfolding isLawfulBranch
 returns c =
     let a = c .before .before .args in
-    told-under (a .f) (λ p u. isLawfulBranch p u (a .f)) (λ edition stage e. none-broken edition stage (a .f) (lawful-branch edition stage (a .f) e .clean) (lawful-branch edition stage (a .f) e .right)) (a .profile) (a .usable) _ (
+    told-under (a .f) (λ p u. isLawfulBranch p u (a .f)) (λ edition stage e. none-broken edition stage (a .f) (lawful-branch edition stage (a .f) e)) (a .profile) (a .usable) _ (
     simp (sym (c .before .is-branch .ensures), c .if1 .taken)
     )
 
 is-opener-requires : tie.Need-is-opener-requires
 is-opener-requires c κs = search needs
 
-is-lawful-source-requires : tie.Need-is-lawful-source-requires
-is-lawful-source-requires c κs = search needs
+is-lawful-either-requires : tie.Need-is-lawful-either-requires
+is-lawful-either-requires c κs = search needs
 
-is-lawful-source-requires-2 : tie.Need-is-lawful-source-requires-2
-is-lawful-source-requires-2 c κs = search needs
+is-lawful-either-requires-2 : tie.Need-is-lawful-either-requires-2
+is-lawful-either-requires-2 c κs = search needs
 
 returns-2 : tie.Need-returns-2
 unfolding isLawfulBranch
 returns-2 c =
-    let a = c .before .before .before .before .before .before .before .args in
-    told-under (a .f) (λ p u. isLawfulBranch p u (a .f)) (λ edition stage e. none-broken edition stage (a .f) (lawful-branch edition stage (a .f) e .clean) (lawful-branch edition stage (a .f) e .right)) (a .profile) (a .usable) _ (
-    simp (sym (c .before .before .before .before .before .before .is-branch .ensures), c .before .before .before .before .before .if1 .left, c .is-lawful-source2 .ensures, c .before .is-lawful-source .ensures, c .before .before .before .before .is-opener .ensures)
+    let a = c .before .before .before .before .before .before .before .before .args in
+    told-under (a .f) (λ p u. isLawfulBranch p u (a .f)) (λ edition stage e. none-broken edition stage (a .f) (lawful-branch edition stage (a .f) e)) (a .profile) (a .usable) _ (
+    simp (
+      sym (c .before .before .before .before .before .before .before .is-branch .ensures),
+      c .before .before .before .before .before .before .if1 .left,
+      sym (c .before .before .before .is-opener .ensures),
+      c .before .before .if2 .taken,
+      c .is-lawful-either2 .ensures,
+      c .before .is-lawful-either .ensures,
+    )
+    )
+
+returns-3 : tie.Need-returns-3
+unfolding isLawfulBranch
+returns-3 c =
+    let a = c .before .before .before .before .before .before .before .before .args in
+    told-under (a .f) (λ p u. isLawfulBranch p u (a .f)) (λ edition stage e. none-broken edition stage (a .f) (lawful-branch edition stage (a .f) e)) (a .profile) (a .usable) _ (
+    simp (
+      sym (c .before .before .before .before .before .before .before .is-branch .ensures),
+      c .before .before .before .before .before .before .if1 .left,
+      sym (c .before .before .before .is-opener .ensures),
+      c .before .before .if2 .left,
+    )
     )
 
 pub is-lawful-branch-spec : {M : Type 1} → statement M
 is-lawful-branch-spec =
-    tie.close (tie.spec is-branch-requires returns is-opener-requires is-lawful-source-requires is-lawful-source-requires-2 returns-2)
+    tie.close
+    (tie.spec
+    is-branch-requires
+    returns
+    is-opener-requires
+    is-lawful-either-requires
+    is-lawful-either-requires-2
+    returns-2
+    returns-3)

@@ -18,7 +18,7 @@ returns : tie.Need-returns
 unfolding isLawfulIndexed
 returns c =
     let a = c .before .before .before .args in
-    told-with (a .f) (λ u. isLawfulIndexed u (a .f)) (λ edition stage e. none-broken edition stage (a .f) (lawful-indexed edition stage (a .f) e .clean) (lawful-indexed edition stage (a .f) e .right)) (a .usable) _ (
+    told-with (a .f) (λ u. isLawfulIndexed u (a .f)) (λ edition stage e. none-broken edition stage (a .f) (lawful-indexed edition stage (a .f) e)) (a .usable) _ (
     simp (sym (c .before .before .rows2 .ensures), sym (c .before .among .ensures), c .if1 .taken)
     )
 
@@ -46,7 +46,7 @@ returns-2 c =
     let a = c .before .before .before .before .before .before .before .before .before .before .args in
     let rows = c .before .before .before .before .before .before .before .before .before .rows2 .ensures in
     let opcode = c .before .before .before .before .before .before .before .before .among .ensures in
-    told-with (a .f) (λ u. isLawfulIndexed u (a .f)) (λ edition stage e. none-broken edition stage (a .f) (lawful-indexed edition stage (a .f) e .clean) (lawful-indexed edition stage (a .f) e .right)) (a .usable) _ (
+    told-with (a .f) (λ u. isLawfulIndexed u (a .f)) (λ edition stage e. none-broken edition stage (a .f) (lawful-indexed edition stage (a .f) e)) (a .usable) _ (
     simp (
       sym rows,
       sym opcode,

@@ -16,7 +16,7 @@ returns : tie.Need-returns
 unfolding isLawfulMatrix
 returns c =
     let a = c .before .before .args in
-    told-with (a .f) (λ u. isLawfulMatrix u (a .f)) (λ edition stage e. none-broken edition stage (a .f) (lawful-matrix edition stage (a .f) e .clean) (lawful-matrix edition stage (a .f) e .right)) (a .usable) _ (
+    told-with (a .f) (λ u. isLawfulMatrix u (a .f)) (λ edition stage e. none-broken edition stage (a .f) (lawful-matrix edition stage (a .f) e)) (a .usable) _ (
     simp (eq-eqb _ 1 (sym (c .before .rows2 .ensures) ∙ c .if1 .taken))
     )
 
@@ -37,7 +37,7 @@ unfolding isLawfulMatrix
 returns-2 c =
     let a = c .before .before .before .before .before .before .before .args in
     let rows = c .before .before .before .before .before .before .rows2 .ensures in
-    told-with (a .f) (λ u. isLawfulMatrix u (a .f)) (λ edition stage e. none-broken edition stage (a .f) (lawful-matrix edition stage (a .f) e .clean) (lawful-matrix edition stage (a .f) e .right)) (a .usable) _ (
+    told-with (a .f) (λ u. isLawfulMatrix u (a .f)) (λ edition stage e. none-broken edition stage (a .f) (lawful-matrix edition stage (a .f) e)) (a .usable) _ (
     simp (
       ne-eqb _ 1 (λ e. c .before .before .before .before .before .if1 .left (rows ∙ e)),
       c .before .is-lawful-source2 .ensures,

@@ -12,7 +12,7 @@ returns : tie.Need-returns
 unfolding isLawfulTex
 returns c =
     let a = c .before .before .args in
-    told-under (a .f) (λ p u. isLawfulTex p u (a .f)) (λ edition stage e. none-broken edition stage (a .f) (lawful-tex edition stage (a .f) e .clean) (lawful-tex edition stage (a .f) e .right)) (a .profile) (a .usable) _ (
+    told-under (a .f) (λ p u. isLawfulTex p u (a .f)) (λ edition stage e. none-broken edition stage (a .f) (lawful-tex edition stage (a .f) e)) (a .profile) (a .usable) _ (
     simp (ne-eqb _ _ (c .if1 .taken))
     )
 
@@ -38,7 +38,7 @@ returns-2 : tie.Need-returns-2
 unfolding isLawfulTex
 returns-2 c =
     let a = c .before .before .before .before .before .before .before .before .before .args in
-    told-under (a .f) (λ p u. isLawfulTex p u (a .f)) (λ edition stage e. none-broken edition stage (a .f) (lawful-tex edition stage (a .f) e .clean) (lawful-tex edition stage (a .f) e .right)) (a .profile) (a .usable) _ (
+    told-under (a .f) (λ p u. isLawfulTex p u (a .f)) (λ edition stage e. none-broken edition stage (a .f) (lawful-tex edition stage (a .f) e)) (a .profile) (a .usable) _ (
     simp (
       eq-eqb _ _ (c .before .before .before .before .before .before .before .if1 .left),
       c .sampler-wrong .ensures,
