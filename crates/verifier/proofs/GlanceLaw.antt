@@ -1,16 +1,16 @@
 -- What is known at a glance of a token is what its step does.
 -- Assumes nothing.
 use Prim.Native.Nat.{ℕ, _+_, _-_, _≤_}
-use mathlib.Core.Bool.{Bool, true, false, false≢true}
+use mathlib.Core.Bool.{Bool, true, false, not, false≢true}
 use mathlib.Core.List.{List}
 use mathlib.Core.Path.{_≡_, refl, _∙_, sym, ap, ap₂, subst}
 use native.Mathlib.Omega.{arith}
-use borrow.Author.Tests.{eq-eqb}
+use borrow.Author.Tests.{eq-eqb, not-true}
 use Rattle.bytecode.specs.Decode.{noRefusal}
 use Rattle.bytecode.specs.computed.CleanFields.{isClean}
 use Rattle.bytecode.specs.Fields.{fieldsOf}
 use Rattle.layout.specs.Opcodes.{shapeOf, flowOf}
-use Rattle.layout.specs.Records.{registerOf, tokenOf}
+use Rattle.layout.specs.Records.{registerOf, destinationOf, tokenOf}
 use Rattle.layout.specs.declared.fields.Fields.{Fields}
 use Rattle.layout.specs.declared.opcodes.Flow.{Flow}
 use Rattle.layout.specs.declared.opcodes.Flow.the-variants.{Plain, Opener, Els, Eif}
@@ -18,17 +18,18 @@ use Rattle.layout.specs.declared.record.Token.{Token}
 use Rattle.layout.specs.Programs.{tokenAt}
 use Rattle.layout.proofs.OpcodeLists.{plain-flow}
 use Rattle.components.specs.computed.Access.{lacksAccess, access1Of, access2Of}
-use Rattle.components.specs.computed.QuickTests.{openerMayReadUnwritten}
+use Rattle.components.specs.computed.QuickTests.{kilMayReadUnwritten, openerMayReadUnwritten}
 use Rattle.components.specs.computed.ReadsWritten.{ReadsWritten}
 use Rattle.components.specs.declared.written.Written.{Written}
 use Rattle.components.proofs.AccessLaws.{lacks-reads1, lacks-reads2}
 use Rattle.faults.specs.computed.Faults.{ownFault}
-use Rattle.faults.specs.computed.LawfulTests.{usableOf, isLawfulBranch}
+use Rattle.faults.specs.computed.LawfulTests.{usableOf, isLawfulKil, isLawfulBranch}
 use Rattle.faults.specs.computed.Profile.{profileOf}
 use Rattle.faults.specs.declared.lawful.Usable.{Usable}
 use Rattle.faults.specs.declared.profile.Profile.{Profile}
 use Rattle.faults.proofs.LawfulBranch.{LawfulBranch, lawful-branch}
-use Rattle.faults.proofs.LawfulToken.{LawfulToken}
+use Rattle.faults.proofs.LawfulKil.{lawful-kil}
+use Rattle.faults.proofs.LawfulToken.{ToldLawful, LawfulToken}
 use Rattle.verifier.specs.computed.Glance.{passedUnless, Whenever, Passes, opensUnwritten, knownUnless, branchStep, KnownBranch}
 use Rattle.verifier.specs.computed.State.{isOutOfPlace, isMisplaced, metState, partedState, withCurrent, writtenBy, wroteState}
 use Rattle.verifier.specs.computed.Step.{faultOfFields, followOf, stepOf}
@@ -71,12 +72,13 @@ module _ (st : State) (sound : st .fault .number ≡ 0) (token : ℕ) where
       ∙ ap (λ f. byTests st token t (isMisplaced st f) (lacksAccess (metState st f .current) (access1Of t)) (lacksAccess (metState st f .current) (access2Of t))) e
       ∙ rw (m, a, b) (ap (λ f. partedState (wroteState (metState st f) (t .destination)) f token) e)
 
-  passes : (edition stage : ℕ) (unwritten : Written → Fields → Bool) (f : Fields) → LawfulToken edition stage unwritten f → unwritten (st .current) f ≡ false
-      → stepOf st (profileOf edition stage) token f ≡ withCurrent st (writtenBy (st .current) (registerOf (f .destination)))
+  -- a lawful token that is no branch and reads nothing unwritten
+  passes : (edition stage : ℕ) (used : Bool) (Enough : Written → Type 0) (f : Fields) → ToldLawful edition stage false used Enough f → Enough (st .current)
+      → stepOf st (profileOf edition stage) token f ≡ wroteState st (destinationOf used (f .destination))
   unfolding tokenOf
-  passes edition stage unwritten f p l =
+  passes edition stage used Enough f p enough =
       taken edition stage f (p .clean) (p .right token)
-      ∙ follow-right (tokenOf (shapeOf (f .opcode)) f) Plain (plain-flow (f .opcode) (p .flow)) refl (right1 (st .current) f (p .reads (st .current) l)) (right2 (st .current) f (p .reads (st .current) l))
+      ∙ follow-right (tokenOf (shapeOf (f .opcode)) f) Plain (plain-flow (f .opcode) (p .flow)) refl (right1 (st .current) f (p .reads (st .current) enough)) (right2 (st .current) f (p .reads (st .current) enough))
       ∙ ap (λ d. wroteState st d) (p .destination)
 
   -- the token of a branch that is in its place
@@ -105,7 +107,7 @@ passed : (edition stage : ℕ) (unwritten : Written → Fields → Bool) (f : Fi
     → (st : State) → st .fault .number ≡ 0 → st .current ≡ current → (token : ℕ) → stepOf st (profileOf edition stage) token f ≡ withCurrent st (r .current)
 passed edition stage unwritten f p current true u r e k st sound at token = absurd (false≢true (sym (ap (λ r. r .known) e) ∙ k))
 passed edition stage unwritten f p current false u r e k st sound at token =
-    passes st sound token edition stage unwritten f p (ap (λ w. unwritten w f) at ∙ sym u)
+    passes st sound token edition stage true (λ w. unwritten w f ≡ false) f p (ap (λ w. unwritten w f) at ∙ sym u)
     ∙ ap (λ w. withCurrent st w) (ap (λ w. writtenBy w (registerOf (f .destination))) at ∙ sym (ap (λ r. r .current) e))
 
 -- By a test that tells lawful tokens, with the test that goes with it of what they read: `told` and `asked` are what the code was answered.
@@ -117,6 +119,15 @@ module _ (f : Fields) (test : Profile → Usable → Bool) (unwritten : Written 
       passed edition stage unwritten f
       (law edition stage (ap₂ test (sym of) (sym (used ∙ ap usableOf of)) ∙ sym tells ∙ holds))
       current asked asks r made known st sound at token
+
+-- kil writes nothing, and leaves the set at hand
+pub passes-kil : (profile : Profile) (usable : Usable) (f : Fields) (told : Bool) → told ≡ isLawfulKil profile usable f → told ≡ true
+    → (current : Written) (asked : Bool) → asked ≡ kilMayReadUnwritten current f → not asked ≡ true → Passes profile usable current f current
+passes-kil profile usable f told tells holds current asked asks known edition stage of used st sound at token =
+    passes st sound token edition stage false (λ w. kilMayReadUnwritten w f ≡ false) f
+    (lawful-kil edition stage f (ap₂ (λ p u. isLawfulKil p u f) (sym of) (sym (used ∙ ap usableOf of)) ∙ sym tells ∙ holds))
+    (ap (λ w. kilMayReadUnwritten w f) at ∙ sym asks ∙ not-true asked known)
+    ∙ ap (withCurrent st) at
 
 -- a branch that is lawful, in its place and reads nothing unwritten
 branch-known : (profile : Profile) (usable : Usable) (depth : ℕ) (innermost : Branch) (current : Written) (f : Fields) (flow : Flow)

@@ -80,6 +80,13 @@ fn pass(profile: Profile, usable: Usable, current: Written, f: Fields) -> Passed
     if faults::is_lawful_tex(profile, usable, f) {
         return passed_unless(quick::tex_may_read_unwritten(current, f), current, f);
     }
+    if faults::is_lawful_kil(profile, usable, f) {
+        // It writes nothing.
+        return Passed {
+            known: !quick::kil_may_read_unwritten(current, f),
+            current,
+        };
+    }
     unknown(current)
 }
 

@@ -6,7 +6,7 @@ use Rattle.components.specs.computed.QuickTests.{mayReadUnwritten, matrixMayRea
 use Rattle.faults.specs.computed.LawfulTests.{isLawful, isLawfulMatrix, isLawfulTex, isLawfulIndexed}
 use Rattle.faults.proofs.LawfulToken.{lawful, lawful-matrix, lawful-tex}
 use Rattle.faults.proofs.LawfulIndexed.{lawful-indexed}
-use Rattle.verifier.proofs.GlanceLaw.{passes-by}
+use Rattle.verifier.proofs.GlanceLaw.{passes-by, passes-kil}
 use borrow.Author.Needs.{needs}
 use Rattle.verifier.proofs.glance.pass.Statement.{statement}
 use Rattle.verifier.proofs.glance.pass.Tie as tie
@@ -89,11 +89,22 @@ returns-6 c =
     passes-by (a .f) (λ p u. isLawfulTex p u (a .f)) texMayReadUnwritten (λ edition stage. lawful-tex edition stage (a .f)) (a .profile) (a .usable)
     _ (c .before .before .before .is-lawful-tex .ensures .0) (c .before .before .if6 .taken) (a .current) _ (c .before .tex-may-read-unwritten .ensures .0) _ (c .passed-unless4 .ensures)
 
+is-lawful-kil-requires : tie.Need-is-lawful-kil-requires
+is-lawful-kil-requires c κs = search needs
+
+kil-may-read-unwritten-requires : tie.Need-kil-may-read-unwritten-requires
+kil-may-read-unwritten-requires c κs = search needs
+
+returns-7 : tie.Need-returns-7
+returns-7 c =
+    let a = c .before .before .before .before .before .before .before .before .before .before .before .before .before .before .args in
+    passes-kil (a .profile) (a .usable) (a .f) _ (c .before .before .is-lawful-kil .ensures .0) (c .before .if7 .taken) (a .current) _ (c .kil-may-read-unwritten .ensures .0)
+
 unknown-requires-3 : tie.Need-unknown-requires-3
 unknown-requires-3 c κs = search needs
 
-returns-7 : tie.Need-returns-7
-returns-7 c = λ k. absurd (false≢true (sym (ap (λ r. r .known) (c .unknown3 .ensures)) ∙ k))
+returns-8 : tie.Need-returns-8
+returns-8 c = λ k. absurd (false≢true (sym (ap (λ r. r .known) (c .unknown3 .ensures)) ∙ k))
 
 pub pass-spec : {M : Type 1} → statement M
 pass-spec =
@@ -121,5 +132,8 @@ pass-spec =
     tex-may-read-unwritten-requires
     passed-unless-requires-4
     returns-6
+    is-lawful-kil-requires
+    kil-may-read-unwritten-requires
+    returns-7
     unknown-requires-3
-    returns-7)
+    returns-8)
