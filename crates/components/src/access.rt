@@ -104,11 +104,8 @@ pub(crate) fn index_unwritten(current: Written, field: u64) -> bool
     ensures { λ r. ⌜ r ≡ lacksAccess current (indexAccess (indexedOf field)) ⌝ }
 {
     let source = layout::unpack_indexed(field);
-    if source.index_kind != 2 {
-        return false;
-    }
     let component = selection::chosen(1, source.component);
-    written::lacks(current, source.number, 1, component)
+    (source.index_kind == 2) & written::lacks(current, source.number, 1, component)
 }
 
 fn mask_of(used: bool, field: u64) -> u8
