@@ -60,8 +60,9 @@ fn check_tokens(edition: u32, bytes: &[u8]) -> Checked
     last_state(profile, usable, bytes, count).finish(stage, count)
 }
 
-// The state after so many tokens, or after the first of them that has a fault. Only an opener that is known at a glance puts the innermost
-// branch away here, in its place: a method that writes to an array copies the state twice.
+// The state after so many tokens, or after the first of them that has a fault: a run of tokens at a glance, then one token by itself, until
+// there is none left. What a known opener puts away and a known eif takes up again is stored and read here, in its place: a method that took
+// the arrays would copy them. For the same reason a refused state is handed back before it is assigned.
 fn last_state(profile: Profile, usable: Usable, bytes: &[u8], count: usize) -> State
     requires { ⌜ CanJudge profile usable (now bytes) count ⌝ }
     ensures { λ r. ⌜ r ≡ stepsOver profile (now (bytes .entry)) startState 0 count ⌝ }

@@ -109,6 +109,7 @@ impl State {
         }
     }
 
+    // els: the set of the first block is kept, and what was written before the branch is at hand.
     pub(crate) fn exchanged(mut self) -> State
         ensures { λ r. ⌜ r ≡ exchangedState self ⌝ }
     {
@@ -125,6 +126,7 @@ impl State {
         self
     }
 
+    // eif.
     pub(crate) fn joined(self) -> State
         ensures { λ r. ⌜ r ≡ joinedState self ⌝ }
     {
@@ -167,6 +169,7 @@ impl State {
         }
     }
 
+    // An opener: the branch that was innermost is put away.
     pub(crate) fn opened(mut self, token: u16) -> State
         ensures { λ r. ⌜ r ≡ openedState self token ⌝ }
     {
