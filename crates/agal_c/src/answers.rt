@@ -1,5 +1,6 @@
 // What the exported functions answer, as C reads it: `include/agal.h` has the same struct.
 ghost use mathlib.Core.Path.{_≡_};
+ghost use Rattle.bytecode.specs.Decode.{refusal};
 ghost use Rattle.agal_c.specs.Answers.{answered as answeredOf, refused as refusedOf};
 ghost use Rattle.agal_c.specs.Calls.{encodedAnswer, printedAnswer};
 ghost use Rattle.agal_c.specs.computed.Delivery.{codeAnswer};
@@ -44,15 +45,9 @@ pub(crate) fn refused(refusal: Refusal, value: usize) -> Answer
 
 // A refusal at a place: the place is its token and also the value, since a refusal does not move on.
 pub(crate) fn refused_at(number: u8, part: u8, place: usize) -> Answer
-    ensures { λ r. ⌜ r ≡ refusedOf (record { number = number; token = place; part = part }) place ⌝ }
+    ensures { λ r. ⌜ r ≡ refusedOf (refusal number place part) place ⌝ }
 {
-    Answer {
-        number,
-        part,
-        stage: 0,
-        token: place,
-        value: place,
-    }
+    refused(bytecode::refusal(number, place, part), place)
 }
 
 // The answer to what `deliver` returned for the token at a place: the next place as the value, or the fault, at that place.

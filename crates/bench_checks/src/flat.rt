@@ -79,7 +79,7 @@ fn operand(s: &[u8]) -> Operand
 // The signed byte that a token with this bias decodes to.
 fn bias(byte: u8) -> i8 {
     let mut token = [0u8; 24];
-    token[0] = 40;
+    token[0] = layout::opcodes::TEX as u8;
     token[18] = byte;
     let Decoded::Token(t) = bytecode::decode(&token) else {
         return 0;

@@ -1,5 +1,5 @@
 -- Document 01, "Listing": the items that a line is made of.
-use Prim.Native.Nat.{ℕ, _*_, _/_, _%_}
+use Prim.Native.Nat.{ℕ, _*_}
 use Prim.Native.Char.{code}
 use mathlib.Core.Bool.{cond}
 use mathlib.Core.List.{List, [], _∷_, _++_}
@@ -8,6 +8,7 @@ use lib.ListN.{replicate}
 use Rattle.listing.specs.Text.{ascii, when}
 use Rattle.listing.specs.Decimal.{decimal, signedDecimal}
 use Rattle.listing.specs.Names.{registerName, dimensionName, mipmapName, wrapName, filterName}
+use Rattle.layout.specs.Swizzles.{bitOf, selector}
 use Rattle.layout.specs.declared.record.MaskedRegister.{MaskedRegister}
 use Rattle.layout.specs.declared.record.Destination.{Destination}
 use Rattle.layout.specs.declared.record.Destination.the-variants.{Unused as NoDestination, Masked}
@@ -29,23 +30,23 @@ registerText stage kind number = registerName stage kind ++ decimal number
 abbrev pub componentLetter : ℕ → ℕ
 componentLetter c = cond (eqb c 0) (code "x") (cond (eqb c 1) (code "y") (cond (eqb c 2) (code "z") (code "w")))
 
--- "A destination ends in a dot and its mask letters": mask bit 0 is x, bit 3 is w
+-- "A destination ends in a dot and its mask letters"
 unfoldable pub maskText : ℕ → List ℕ
 maskText mask =
     ascii "."
-    ++ when (eqb (mask % 2) 1) (ascii "x")
-    ++ when (eqb (mask / 2 % 2) 1) (ascii "y")
-    ++ when (eqb (mask / 4 % 2) 1) (ascii "z")
-    ++ when (eqb (mask / 8 % 2) 1) (ascii "w")
+    ++ when (bitOf mask 0) (ascii "x")
+    ++ when (bitOf mask 1) (ascii "y")
+    ++ when (bitOf mask 2) (ascii "z")
+    ++ when (bitOf mask 3) (ascii "w")
 
--- "a source in a dot and four letters": swizzle bits 0-1 choose for x, bits 6-7 for w
+-- "a source in a dot and four letters", one for each selector
 unfoldable pub swizzleText : ℕ → List ℕ
 swizzleText swizzle =
     ascii "."
-    ++ (componentLetter (swizzle % 4) ∷ [])
-    ++ (componentLetter (swizzle / 4 % 4) ∷ [])
-    ++ (componentLetter (swizzle / 16 % 4) ∷ [])
-    ++ (componentLetter (swizzle / 64 % 4) ∷ [])
+    ++ (componentLetter (selector swizzle 0) ∷ [])
+    ++ (componentLetter (selector swizzle 1) ∷ [])
+    ++ (componentLetter (selector swizzle 2) ∷ [])
+    ++ (componentLetter (selector swizzle 3) ∷ [])
 
 -- ---- operands, each with "one space before"
 

@@ -43,11 +43,7 @@ pub const START: State = State {
     kept: [Written { low: 0, high: 0 }; 16],
     openers: [0; 16],
     els_met: [0; 16],
-    fault: Refusal {
-        number: 0,
-        token: 0,
-        part: 0,
-    },
+    fault: bytecode::NO_REFUSAL,
 };
 
 // Where the innermost of so many open branches is put when another is opened in it. Every number has a place.
