@@ -11,18 +11,17 @@ use Rattle.bytecode.specs.declared.answers.Decoded.the-variants.{Token as Read,
 use Rattle.bytecode.specs.declared.answers.Encoded.{Encoded}
 use Rattle.bytecode.specs.declared.answers.Encoded.the-variants.{Written, Refused as NotWritten}
 use Rattle.listing.specs.Line.{lineAnswer, afterLine}
+use Rattle.listing.specs.Printing.{printedNumbers}
 use Rattle.listing.specs.declared.answers.Printed.{Printed}
-use Rattle.listing.specs.declared.answers.Printed.the-variants.{Length, Refused as NotPrinted}
+use Rattle.verifier.specs.Numbers.{checkedNumbers}
 use Rattle.verifier.specs.declared.answers.Checked.{Checked}
-use Rattle.verifier.specs.declared.answers.Checked.the-variants.{Accepted, Refused as NotAccepted}
-use Rattle.agal_c.specs.Answers.{answered, refused}
+use Rattle.agal_c.specs.Answers.{numbersAnswer, answered, refused}
 use Rattle.agal_c.specs.Flat.{flatOf, isFlat, tokenOfFlat}
 use Rattle.agal_c.specs.declared.answers.Answer.{Answer}
 
--- check: stage and token count
+-- check: stage and token count, or the refusal
 abbrev pub checkAnswer : Checked → Answer
-checkAnswer (Accepted p) = answered (p .stage) (p .tokens)
-checkAnswer (NotAccepted r) = refused r 0
+checkAnswer r = numbersAnswer (checkedNumbers r)
 
 -- ---- decode and the reader's step
 
@@ -53,9 +52,9 @@ afterFlatEncode flat buffer = cond (isFlat flat) (afterEncode (tokenOfFlat flat)
 
 -- ---- line and report
 
+-- the length, or the refusal
 abbrev pub printedAnswer : Printed → Answer
-printedAnswer (Length n) = answered 0 n
-printedAnswer (NotPrinted r) = refused r 0
+printedAnswer r = numbersAnswer (printedNumbers r)
 
 unfoldable pub lineAnswerOf : List ℕ → ℕ → ℕ → List ℕ → Answer
 lineAnswerOf flat stage depth buffer =
