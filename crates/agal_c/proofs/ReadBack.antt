@@ -9,7 +9,7 @@ use lib.Dec.{T, leb, ltb→lt, lit<}
 use lib.IntN.{ℤ, pos, negsuc}
 use lib.ListN.{length}
 use borrow.Author.Tests.{le-ltb}
-use Rattle.laws.specs.Tests.{eqZ}
+use Rattle.laws.specs.computed.Tests.{eqZ}
 use Rattle.laws.proofs.Every.{below, eqZ→eq}
 use Rattle.layout.specs.Layout.{wordAt, wordBytes}
 use Rattle.layout.specs.Records.{signed}

@@ -4,7 +4,7 @@ use mathlib.Core.Path.{_≡_}
 use mathlib.Core.Bool.{Bool, false, _&&_, Bool·beq}
 use lib.Dec.{T, eqb, eqb→eq}
 use lib.Ieee.{Float, nan, inf, fin}
-use Rattle.laws.specs.Tests.{eqZ}
+use Rattle.laws.specs.computed.Tests.{eqZ}
 use Rattle.laws.proofs.Every.{same→eq, both-left, both-right, eqZ→eq}
 
 abbrev pub eqF : Float → Float → Bool

@@ -7,7 +7,7 @@ use native.Mathlib.Omega.{arith}
 use lib.Bits.{bitAnd, and-mod, and-comm, and-mask, and-le-l}
 use lib.Dec.{eqb}
 use borrow.Author.Tests.{eqb-true, eqb-false, eq-eqb, ne-eqb}
-use Rattle.laws.specs.Tests.{every}
+use Rattle.laws.specs.computed.Tests.{every}
 use Rattle.laws.proofs.Every.{below, is-true, same→eq}
 use Rattle.layout.specs.Swizzles.{bitOf}
 use Rattle.layout.proofs.MaskBits.{bit-and}

@@ -7,7 +7,7 @@ use native.Mathlib.Decide.{decLt}
 use native.Mathlib.Nat.{zero-div}
 use native.Mathlib.Omega.{arith}
 use lib.Dec.{T, eqb, ltb, eqb→eq}
-use Rattle.laws.specs.Tests.{every}
+use Rattle.laws.specs.computed.Tests.{every}
 use Rattle.laws.proofs.Every.{below}
 use Rattle.layout.specs.computed.Sets.{ordinarySet}
 use Rattle.registers.specs.Counts.{countOf}

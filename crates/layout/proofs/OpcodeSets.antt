@@ -9,7 +9,7 @@ use native.Mathlib.Decide.{decLt}
 use native.Mathlib.Omega.{arith}
 use lib.Dec.{T, eqb, leb, eqb→eq}
 use borrow.Author.Tests.{lt-ltb, le-ltb, lt-leb, ne-eqb, eqb-false}
-use Rattle.laws.specs.Tests.{every}
+use Rattle.laws.specs.computed.Tests.{every}
 use Rattle.laws.proofs.Every.{below, both-left, both-right, neither, same→eq}
 use Rattle.layout.specs.Opcodes.{isIn, kil, tex, m33, m44, m34, ife, eif, firstOpcodes, addedOpcodes, openers, bareOpcodes, isAdded, isMatrix, rowCount2, unlisted, shapeOfRow, shapeOf}
 use Rattle.layout.specs.computed.Groups.{isBranch, isOrdinary, isOrdinaryIn, sourceShape, secondShape}

@@ -8,7 +8,7 @@ use native.Mathlib.Nat.{div-one}
 use native.Mathlib.Omega.{arith}
 use lib.Bits.{bitOr}
 use lib.Dec.{eqb, eqb→eq}
-use Rattle.laws.specs.Tests.{every}
+use Rattle.laws.specs.computed.Tests.{every}
 use Rattle.laws.proofs.Every.{below, same→eq}
 use Rattle.layout.specs.Opcodes.{isIn, m33, m44, m34, kil, tex}
 use Rattle.layout.specs.Swizzles.{keep, those, firstFew, bitOf, maskComponents, selector, named, selectorsAgree, componentsOf}

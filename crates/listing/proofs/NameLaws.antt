@@ -8,7 +8,7 @@ use native.Mathlib.Omega.{arith}
 use lib.Dec.{T, eqb, ltb, eqb→eq, ltb→lt}
 use lib.ListN.{length, take, drop, getD}
 use Rattle.layout.specs.Opcodes.{isIn, isListed, firstOpcodes, addedOpcodes}
-use Rattle.laws.specs.Tests.{every}
+use Rattle.laws.specs.computed.Tests.{every}
 use Rattle.laws.proofs.Every.{both-left, both-right, below}
 use Rattle.listing.specs.Text.{ascii, when}
 use Rattle.listing.specs.Names.{opcodeName, registerName}

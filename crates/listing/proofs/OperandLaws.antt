@@ -20,7 +20,7 @@ use Rattle.layout.specs.declared.record.Sampler.{Sampler}
 use Rattle.layout.specs.declared.record.Operand.{Operand}
 use Rattle.layout.specs.declared.record.Operand.the-variants.{Unused as NoOperand, Direct, Indexed, Sampler as Sampled}
 use Rattle.layout.specs.declared.record.Token.{Token}
-use Rattle.listing.proofs.Bytes.{both}
+use Rattle.laws.proofs.Every.{both}
 use Rattle.listing.specs.Line.{hasName, destinationHasNames, operandHasNames, isNameable}
 use Rattle.listing.specs.computed.Writers.{operandRoom, Nameable}
 

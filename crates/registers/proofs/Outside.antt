@@ -7,7 +7,7 @@ use native.Mathlib.Decide.{decLt}
 use native.Mathlib.Omega.{arith}
 use lib.Dec.{leb, leb→le, lit≤}
 use lib.ListN.{length, getD, List·getD-eq-default}
-use Rattle.laws.specs.Tests.{every}
+use Rattle.laws.specs.computed.Tests.{every}
 use Rattle.laws.proofs.Every.{below}
 use Rattle.registers.specs.Counts.{table, countOf}
 

@@ -20,7 +20,7 @@ use Rattle.layout.specs.declared.record.Token.{Token}
 use Rattle.registers.specs.Counts.{countOf}
 use Rattle.registers.specs.Uses.{isWritable}
 use Rattle.registers.proofs.Outside.{outside-stage, outside-edition}
-use Rattle.laws.specs.Tests.{every}
+use Rattle.laws.specs.computed.Tests.{every}
 use Rattle.laws.proofs.Every.{below, neither}
 use Rattle.paths.specs.Paths.{PathToken}
 use Rattle.paths.specs.Nesting.{misplaced}

@@ -10,7 +10,7 @@ use mir.Syntax.{w8, w16}
 use mir.Val.{toZ, ofZ}
 use lib.Signed.{mag}
 use Rattle.layout.specs.Records.{signed}
-use Rattle.laws.specs.Tests.{eqZ}
+use Rattle.laws.specs.computed.Tests.{eqZ}
 use Rattle.laws.proofs.Every.{below, either-right, eqZ→eq}
 use Rattle.layout.proofs.unpack.signed_byte.Statement.{statement}
 use Rattle.layout.proofs.unpack.signed_byte.Tie as tie

@@ -5,7 +5,7 @@ use native.Mathlib.Omega.{arith}
 use lib.Dec.{eqb, leb}
 use borrow.Author.Needs.{needs}
 use borrow.Author.Tests.{leb-true}
-use Rattle.listing.proofs.Bytes.{both}
+use Rattle.laws.proofs.Every.{both}
 use Rattle.listing.proofs.names.row.Statement.{statement}
 use Rattle.listing.proofs.names.row.Tie as tie
 
