@@ -11,8 +11,8 @@ use layout::opcodes;
 use layout::opcodes::OperandShape;
 use layout::selection;
 
-// What a lawful token may use in an edition and a stage: a set of opcodes, and how many registers of each kind a source, a destination and an
-// index may name. A count has eight bits, and is 0 for a kind that may not be named there.
+// What a lawful token may use in an edition and a stage: the ordinary opcodes, and how many registers of each kind a source, a destination and
+// an index may name. A count has eight bits, and is 0 for a kind that may not be named there.
 pub struct Usable {
     pub opcodes: u64,
     pub readable: u64,

@@ -68,7 +68,7 @@ const THREE_WIDE: u64 = 0x0282_4000;
 const MATRICES: u64 = 0x0380_0000;
 
 // All that are listed but matrices, openers, els, eif, kil and tex: a destination and one or two sources of one register, in every stage, and
-// no rule of its own but 15.
+// no rule of its own but 10 and 15.
 const ORDINARY: u64 = 0x3600_0C7F_FFFF;
 
 // Those of them that edition 1 has.

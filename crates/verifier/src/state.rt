@@ -1,6 +1,7 @@
 // The state of the check between two tokens: what is written on every path to here, and for each open branch what is written on the other
 // way through it. It goes by value: what a token does to it is a method that takes the state and hands the next one back. Each is defined for
-// every state and every number.
+// every state and every number. Only what is known at a glance is stored by the check's loop itself: the set at hand after a run, and the
+// branch that an opener puts away.
 ghost use mathlib.Core.Bool.{cond};
 ghost use mathlib.Core.Path.{_≡_};
 ghost use Prim.Native.Nat.{_<_};

@@ -1,4 +1,4 @@
--- Document 01, "Ways, reads and writes", as Reads states it, in the form that the code uses: a register, how many rows from it, and a set
+-- What Reads states, in the form that the code uses: a register, how many rows from it, and a set
 -- of components as a number. That each says what Reads says is proved, in AccessLaws.
 use Prim.Native.Nat.{ℕ, _*_, _%_, _^_}
 use mathlib.Core.Bool.{Bool, _&&_}

@@ -1,4 +1,4 @@
--- Document 01, "Ways, reads and writes": the check's set of written components, two 64-bit numbers with four bits for each temporary
+-- The check's set of written components, as the code keeps it: two 64-bit numbers with four bits for each temporary
 -- register, x the lowest: registers 0 to 15 in the low number, 16 to 31 in the high one. No edition has more than 26.
 use Prim.Native.Nat.{ℕ, _*_, _/_, _%_, _^_}
 use mathlib.Core.Bool.{Bool, cond, not}

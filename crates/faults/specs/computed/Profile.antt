@@ -1,4 +1,4 @@
--- Document 01, "Register counts by edition and stage": the counts of one edition and stage, in one number.
+-- The register counts of one edition and stage as the code keeps them, in one number.
 use Prim.Native.Nat.{ℕ, _*_, _/_, _%_, _^_}
 use mathlib.Core.Bool.{cond}
 use lib.Dec.{leb}
