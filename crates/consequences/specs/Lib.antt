@@ -1,4 +1,5 @@
 pub mod Branching
 pub mod Bytes
 pub mod Checking
+pub mod Numbers
 pub mod Reading
