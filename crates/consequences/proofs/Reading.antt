@@ -1,6 +1,7 @@
 -- Whoever reads an accepted program on gets check's count and the program's bytes; a refusal stays.
 -- Assumes nothing.
 use Prim.Native.Nat.{ℕ, zero, suc, _+_, _-_, _<_}
+use mathlib.Core.Bool.{Bool, true, false, cond}
 use mathlib.Core.List.{List}
 use mathlib.Core.Path.{_≡_, refl, sym, ap, _∙_}
 use native.Mathlib.Decide.{decLt}
@@ -10,10 +11,11 @@ use denote.Ref.{now}
 use Rattle.layout.specs.declared.record.Token.{Token}
 use Rattle.bytecode.specs.Decode.{refusal, decodeOf}
 use Rattle.bytecode.specs.declared.answers.Refusal.{Refusal}
+use Rattle.bytecode.specs.declared.answers.Decoded.{Decoded}
 use Rattle.bytecode.specs.declared.answers.Decoded.the-variants.{Token as Gives, Refused}
 use Rattle.bytecode.proofs.RoundTrip.{round-trip}
-use Rattle.layout.specs.Programs.{tokenAt}
-use Rattle.reader.specs.Reading.{readOf, placeAfter}
+use Rattle.layout.specs.Programs.{tokenAt, noTokenLeft}
+use Rattle.reader.specs.Reading.{faultAt, standsAt, readOf, placeAfter}
 use Rattle.reader.specs.Sequence.{placeAfterReads, placeOpened, GivesTokens}
 use Rattle.reader.specs.declared.answers.Opened.{Opened}
 use Rattle.reader.specs.declared.answers.Read.{Read}
@@ -79,13 +81,29 @@ on : (s : List ℕ) (n i j : ℕ) → placeAfterReads s (placeAfterReads s n i) 
 on s n i zero = rw (add-zero i) refl
 on s n i (suc j) = rw (add-suc i j) (ap (placeAfter s) (on s n i j))
 
+-- a read that is refused names the token where the reader stands
+stands : (s : List ℕ) (n : ℕ) (f : Refusal) → readOf s n ≡ Refused f → n ≡ f .token
+unfolding readOf
+stands s n f e = go (noTokenLeft s n) (decodeOf (tokenAt s n)) e
+  where
+    go : (none : Bool) (d : Decoded) → cond none (Refused (refusal 24 n 0)) (standsAt n d) ≡ Refused f → n ≡ f .token
+    go true d k = ap (λ g. g .token) (same-refusal (refusal 24 n 0) f k)
+    go false (Gives t) k = absurd (not-both k)
+    go false (Refused g) k = ap (λ x. x .token) (same-refusal (faultAt n g) f k)
+
 pub refused-for-ever : RefusedForEver
 refused-for-ever lent opened reads run i f e j =
     let s = now lent in
-    let k = stays-refused s (placeOpened s i) f (sym (answer-run lent opened reads run i) ∙ e) .answer j in
-    answer-run lent opened reads run (i + j) ∙ ap (readOf s) (sym (on s 0 i j)) ∙ k
+    let n = placeOpened s i in
+    let refused = sym (answer-run lent opened reads run i) ∙ e in
+    let stays = stays-refused s n f refused in (
+      answer-run lent opened reads run (i + j) ∙ ap (readOf s) (sym (on s 0 i j)) ∙ stays .answer j,
+      place-run lent opened reads run (i + j) ∙ ap (placeAfter s) (sym (on s 0 i j)) ∙ stays .place (suc j) ∙ stands s n f refused,
+    )
 
 pub short-refused : ShortRefused
 short-refused lent opened reads run h =
-    let (o, stays) = refused-opening (now lent) h in
-    (run .opens .answer ∙ o, λ i. answer-run lent opened reads run i ∙ stays .answer i)
+    let (o, stays) = refused-opening (now lent) h in (
+      run .opens .answer ∙ o,
+      λ i. (answer-run lent opened reads run i ∙ stays .answer i, place-run lent opened reads run i ∙ stays .place (suc i)),
+    )

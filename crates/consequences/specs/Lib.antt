@@ -1,4 +1,6 @@
 pub mod Branching
 pub mod Bytes
 pub mod Checking
+pub mod Listing
+pub mod Numbers
 pub mod Reading

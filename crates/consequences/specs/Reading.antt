@@ -39,14 +39,15 @@ AcceptedReadWhole =
     (edition : ℕ) (lent : RefT (List ℕ)) (r : Checked) (stage count : ℕ) (opened : Opened) (reads : ℕ → Read)
     → Checks edition (now lent) r → r ≡ Accepted (program stage count) → Run lent opened reads → ReadWhole (now lent) count opened reads
 
--- Of any bytes: a read that is refused is refused alike for ever.
+-- Of any bytes: a read that is refused is refused alike for ever, and the reader stays at the token that the refusal names.
 abbrev pub RefusedForEver : Type 0
 RefusedForEver =
     (lent : RefT (List ℕ)) (opened : Opened) (reads : ℕ → Read) → Run lent opened reads
-    → (i : ℕ) (f : Refusal) → reads i .answer ≡ Refused f → (j : ℕ) → reads (i + j) .answer ≡ Refused f
+    → (i : ℕ) (f : Refusal) → reads i .answer ≡ Refused f → (j : ℕ)
+    → (reads (i + j) .answer ≡ Refused f) × (reads (i + j) .reader .place ≡ f .token)
 
--- Of fewer than 7 bytes: the opening is refused by 2, and every read by 24 at token 0.
+-- Of fewer than 7 bytes: the opening is refused by 2, and every read by 24 at token 0, where the reader stays.
 abbrev pub ShortRefused : Type 0
 ShortRefused =
     (lent : RefT (List ℕ)) (opened : Opened) (reads : ℕ → Read) → Run lent opened reads → length (now lent) < 7
-    → (opened .answer ≡ NotOpened (refusal 2 0 0)) × ((i : ℕ) → reads i .answer ≡ Refused (refusal 24 0 0))
+    → (opened .answer ≡ NotOpened (refusal 2 0 0)) × ((i : ℕ) → (reads i .answer ≡ Refused (refusal 24 0 0)) × (reads i .reader .place ≡ 0))
