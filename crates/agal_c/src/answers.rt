@@ -11,7 +11,7 @@ use listing::answers::Printed;
 // `number` is 0 where nothing is refused. `token` and `part` are the place of a refusal, `stage` is what check found, and `value` what else
 // is answered: the token count of check, the length of what was written, or the reader's place.
 #[repr(C)]
-#[derive(Drop)]
+#[derive(Clone, Copy)]
 pub struct Answer {
     pub number: u8,
     pub part: u8,

@@ -1,5 +1,7 @@
 // The C interface: the calls of the libraries on numbers and byte slices. A slice is a pointer and a length in C; `include/agal.h` declares
 // the functions, and says what a caller hands over.
+#![tactic(auto)]
+
 pub mod answers;
 mod flat;
 mod values;

@@ -1,4 +1,6 @@
 // Reads an edition digit and a program's bytes from standard input, and prints the listing or the refusal.
+#![tactic(auto)]
+
 use libc::STDOUT_FILENO;
 use listing::answers::Printed;
 

@@ -1,5 +1,7 @@
 // Reads an edition digit and a program's bytes from standard input, as agallist does, and prints what a token reader over the program
 // answers: to its opening, and to each read. The reader needs no edition and does not judge the program.
+#![tactic(auto)]
+
 mod print;
 mod reading;
 

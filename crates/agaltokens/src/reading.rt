@@ -6,7 +6,7 @@ use bytecode::answers::Decoded;
 use reader::answers::{Opening, TokenReader};
 
 // What a read answers, and the place of the reader after it.
-#[derive(Drop)]
+#[derive(Clone, Copy)]
 pub struct Step {
     pub answer: Decoded,
     pub place: usize,

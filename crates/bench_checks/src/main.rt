@@ -1,5 +1,7 @@
 // Runs cases through the library and prints what it answers. The cases are read from standard input, a line each: a letter and bytes in
 // hexadecimal. A line that begins with '#' is printed as it stands. The gate compares the whole output with the file stdout.
+#![tactic(auto)]
+
 mod cases;
 mod codec;
 mod flat;

@@ -30,7 +30,7 @@ pub fn refusal(r: Refusal) {
 }
 
 // How each byte of a line is printed.
-#[derive(Drop)]
+#[derive(Clone, Copy)]
 pub enum Form {
     Hexadecimal,
     // The set of components that the byte names as a swizzle.

@@ -1,4 +1,6 @@
 // A token's 24 bytes and its record: decode, encode and bias.
+#![tactic(auto)]
+
 pub mod answers;
 mod biases;
 mod decoding;

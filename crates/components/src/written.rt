@@ -3,7 +3,7 @@ ghost use Rattle.std.specs.Prelude.{cond, ◌≡◌, ◌*◌, ◌%◌, ◌^◌};
 ghost use Rattle.components.specs.computed.Written.{half_of, join_of, mark_of, lacks_row, lacks_of};
 
 // Four bits for each register, its lowest for x: registers 0 to 15 in the low half, 16 to 31 in the high one.
-#[derive(Drop)]
+#[derive(Clone, Copy)]
 pub struct Written {
     pub low: u64,
     pub high: u64,

@@ -11,7 +11,7 @@ use layout::{bits, opcodes, selection};
 
 // What a lawful token may use in an edition and a stage: the ordinary opcodes, and how many registers of each kind a source, a destination and
 // an index may name. A count has eight bits, and is 0 for a kind that may not be named there.
-#[derive(Drop)]
+#[derive(Clone, Copy)]
 pub struct Usable {
     pub opcodes: u64,
     pub readable: u64,

@@ -3,7 +3,7 @@ ghost use Rattle.std.specs.Prelude.{◌≡◌};
 ghost use Rattle.faults.specs.computed.Profile.{profile_of, count_in};
 
 // Register counts stand by kind, eight bits each, so that one shift finds a count.
-#[derive(Drop)]
+#[derive(Clone, Copy)]
 pub struct Profile {
     pub edition: u32,
     pub stage: u8,

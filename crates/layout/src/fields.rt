@@ -1,7 +1,7 @@
 // The four fields of a token as numbers, and a number from its bytes.
 ghost use Rattle.std.specs.Prelude.{◌≡◌, ◌+◌, ◌*◌};
 
-#[derive(Drop)]
+#[derive(Clone, Copy)]
 pub struct Fields {
     pub opcode: u32,
     pub destination: u64,

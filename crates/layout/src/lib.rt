@@ -1,4 +1,6 @@
 // The published format of a token: opcodes and what each takes, the bits of each field, swizzles, the token record.
+#![tactic(auto)]
+
 pub mod bits;
 pub mod fields;
 pub mod opcodes;

@@ -1,7 +1,7 @@
 // What is answered where a text was to be written to a lent buffer.
 use bytecode::answers::Refusal;
 
-#[derive(Drop)]
+#[derive(Clone, Copy)]
 pub enum Printed {
     // The text's length, in bytes.
     Length(usize),

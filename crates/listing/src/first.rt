@@ -10,14 +10,14 @@ use crate::{decimal, printing, text};
 use bytecode::answers::Refusal;
 
 // An accepted program.
-#[derive(Drop)]
+#[derive(Clone, Copy)]
 pub struct Heading {
     pub edition: u16,
     pub stage: u8,
     pub tokens: u16,
 }
 
-#[derive(Drop)]
+#[derive(Clone, Copy)]
 pub enum FirstLine {
     Accepted(Heading),
     Refused(Refusal),

@@ -1,4 +1,6 @@
 // The token reader: token after token of a lent program.
+#![tactic(auto)]
+
 pub mod answers;
 mod reading;
 mod steps;

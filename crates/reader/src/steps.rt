@@ -7,7 +7,7 @@ use crate::answers::Opening;
 use bytecode::answers::Decoded;
 
 // An answer, and the place that the reader has after it.
-#[derive(Drop)]
+#[derive(Clone, Copy)]
 pub(crate) struct Step {
     pub answer: Decoded,
     pub place: usize,

@@ -1,4 +1,6 @@
 // The whole text that agallist prints.
+#![tactic(auto)]
+
 mod opening;
 mod reporting;
 mod tokens;

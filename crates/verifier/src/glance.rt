@@ -14,14 +14,14 @@ use layout::opcodes;
 use layout::opcodes::Flow;
 
 // Whether a token is known to have no fault, and then the set after it.
-#[derive(Drop)]
+#[derive(Clone, Copy)]
 pub struct Passed {
     pub known: bool,
     pub current: Written,
 }
 
 // The set at hand after a run of tokens, and the number of the token after them.
-#[derive(Drop)]
+#[derive(Clone, Copy)]
 pub struct Run {
     pub current: Written,
     pub token: usize,

@@ -13,7 +13,7 @@ use layout::opcodes::Flow;
 use layout::record::MaskedRegister;
 
 // An open branch: the set kept for the path that does not come by here, its opener's token number, and whether its els was met, 0 if not.
-#[derive(Drop)]
+#[derive(Clone, Copy)]
 pub struct Branch {
     pub kept: Written,
     pub opener: u16,
@@ -22,7 +22,7 @@ pub struct Branch {
 
 // The innermost of the open branches stands by itself, since most tokens that change a branch change that one. The arrays have those around
 // it, the outermost first. A fault with number 0 is none.
-#[derive(Drop)]
+#[derive(Clone, Copy)]
 pub struct State {
     pub current: Written,
     pub innermost: Branch,
