@@ -9,7 +9,7 @@ use lib.Dec.{eqb}
 use mir.Val.{bool_byte}
 use Rattle.layout.specs.Layout as layout
 use Rattle.layout.specs.Layout.{value_of, word_bytes, destination_rows, source_rows, defined_bits, destination_bits, is_stray}
-use Rattle.layout.specs.Records.{direct_of_lem, indexed_of_lem, is_indexed, source_of, destination_of}
+use Rattle.layout.specs.Records.{direct_of, indexed_of, is_indexed, source_of, destination_of}
 use Rattle.layout.specs.declared.record.Operand.TheVariants.{Unused as NoOperand, Direct, Indexed}
 use Rattle.layout.proofs.Stray.{all_kept}
 use Rattle.bytecode.proofs.Words.{long_bytes}
@@ -62,7 +62,7 @@ source_bytes form w e =
 pub by_form : (w : ℕ) → source_values (cond (is_indexed w) 2 1) w ≡ operand_values (source_of w)
 by_form w = go (eqb (value_of layout.indirect w) 0)
   where
-    go : (direct : Bool) → source_values (cond (not direct) 2 1) w ≡ operand_values (cond direct (Direct (direct_of_lem w)) (Indexed (indexed_of_lem w)))
+    go : (direct : Bool) → source_values (cond (not direct) 2 1) w ≡ operand_values (cond direct (Direct (direct_of w)) (Indexed (indexed_of w)))
     go true = refl
     go false = refl
 

@@ -10,7 +10,7 @@ use lib.ListN.{get_or}
 use borrow.Author.Tests.{lt-ltb, ltb-true}
 use Rattle.layout.specs.Layout as layout
 use Rattle.layout.specs.Layout.{value_of, defined_bits, destination_rows, is_stray}
-use Rattle.layout.specs.Records.{register_of_lem}
+use Rattle.layout.specs.Records.{register_of}
 use Rattle.bytecode.specs.Encode.{register_fits, register_field}
 use Rattle.layout.specs.declared.record.MaskedRegister.{MaskedRegister}
 use Rattle.layout.proofs.Rows.{Rising, Fit, pack, values_again}
@@ -30,7 +30,7 @@ packed : (r : MaskedRegister) → register_field r ≡ pack destination_rows (va
 unfolding register_field values_of
 packed r = omega arith
 
-pub register_fits_lem : (w : ℕ) → register_fits (register_of_lem w) ≡ true
+pub register_fits_lem : (w : ℕ) → register_fits (register_of w) ≡ true
 unfolding register_fits
 register_fits_lem w =
     simp (
@@ -39,9 +39,9 @@ register_fits_lem w =
       lt-ltb (value_of layout.number w) 65536 (omega arith),
     )
 
-pub register_again : (w : ℕ) → is_stray (defined_bits destination_rows) w ≡ false → register_field (register_of_lem w) ≡ w
+pub register_again : (w : ℕ) → is_stray (defined_bits destination_rows) w ≡ false → register_field (register_of w) ≡ w
 unfolding values_of
-register_again w e = packed (register_of_lem w) ∙ all_kept destination_rows rising w e
+register_again w e = packed (register_of w) ∙ all_kept destination_rows rising w e
 
 module _ (r : MaskedRegister) (e : register_fits r ≡ true) where
   fit : Fit destination_rows (values_of r)
@@ -50,9 +50,9 @@ module _ (r : MaskedRegister) (e : register_fits r ≡ true) where
       let p = left (ltb r.mask 16 && ltb r.kind 16) _ e in
       (ltb-true r.number 65536 (right (ltb r.mask 16 && ltb r.kind 16) _ e), (ltb-true r.mask 16 (left (ltb r.mask 16) _ p), (ltb-true r.kind 16 (right (ltb r.mask 16) _ p), tt)))
 
-  pub register_of_lem : register_of_lem (register_field r) ≡ r
+  pub register_of_lem : register_of (register_field r) ≡ r
   unfolding from_values values_of
-  register_of_lem = ap register_of_lem (packed r) ∙ ap from_values (values_again destination_rows (values_of r) rising fit)
+  register_of_lem = ap register_of (packed r) ∙ ap from_values (values_again destination_rows (values_of r) rising fit)
 
   pub register_clean : is_stray (defined_bits destination_rows) (register_field r) ≡ false
   register_clean = rw (packed r) (none_stray destination_rows (values_of r) rising fit)

@@ -10,8 +10,8 @@ use lib.ListN.{get_or}
 use borrow.Author.Tests.{lt-ltb, ltb-true, eq-eqb, ne_eqb, eqb-true, eqb-false}
 use Rattle.layout.specs.Layout as layout
 use Rattle.layout.specs.Layout.{value_of, defined_bits, source_rows, is_stray}
-use Rattle.layout.specs.Records.{direct_of_lem, indexed_of_lem, source_of}
-use Rattle.bytecode.specs.Encode.{source_fits_lem, source_field, operand_fits, operand_field}
+use Rattle.layout.specs.Records.{direct_of, indexed_of, source_of}
+use Rattle.bytecode.specs.Encode.{source_fits, source_field, operand_fits, operand_field}
 use Rattle.bytecode.specs.computed.Placed.{SourceHigh}
 use Rattle.layout.specs.declared.opcodes.OperandShape.TheVariants.{Source as SourceField}
 use Rattle.layout.specs.declared.record.DirectSource.{DirectSource}
@@ -31,8 +31,8 @@ packed n o s t i q d = omega arith
 -- ---- from a field
 
 module _ (w : ℕ) where
-  value_fits : source_fits_lem (value_of layout.number w) (value_of layout.offset w) (value_of layout.swizzle w) (value_of layout.kind w) (value_of layout.index_kind w) (value_of layout.component w) ≡ true
-  unfolding source_fits_lem
+  value_fits : source_fits (value_of layout.number w) (value_of layout.offset w) (value_of layout.swizzle w) (value_of layout.kind w) (value_of layout.index_kind w) (value_of layout.component w) ≡ true
+  unfolding source_fits
   value_fits =
       simp (
         lt-ltb (value_of layout.kind w) 16 (omega arith),
@@ -70,9 +70,9 @@ module _ (w : ℕ) where
 
 -- ---- from a record
 
-module _ (n o s t i q d : ℕ) (e : source_fits_lem n o s t i q ≡ true) (hd : d < 2) where
+module _ (n o s t i q d : ℕ) (e : source_fits n o s t i q ≡ true) (hd : d < 2) where
   fit : Fit source_rows (n ∷ o ∷ s ∷ t ∷ i ∷ q ∷ d ∷ [])
-  unfolding source_fits_lem
+  unfolding source_fits
   fit =
       let p5 = left (ltb t 16 && ltb i 16 && ltb q 4 && ltb n 65536 && ltb o 256) _ e in
       let p4 = left (ltb t 16 && ltb i 16 && ltb q 4 && ltb n 65536) _ p5 in
@@ -110,7 +110,7 @@ unfolding direct_from
 direct_of_lem s e =
     let a = again s.number s.offset s.swizzle s.kind s.index_kind s.component 0 e (lit< tt) in
     let d : value_of layout.indirect (operand_field (Direct s)) ≡ 0 = ap (λ l. get_or l 6 0) a in
-    let r : direct_of_lem (operand_field (Direct s)) ≡ s = ap direct_from a in
+    let r : direct_of (operand_field (Direct s)) ≡ s = ap direct_from a in
     rw (eq-eqb (value_of layout.indirect (operand_field (Direct s))) 0 d) (ap Direct r)
 
 pub indexed_of_lem : (s : IndexedSource) → operand_fits SourceField (Indexed s) ≡ true → source_of (operand_field (Indexed s)) ≡ Indexed s
@@ -118,5 +118,5 @@ unfolding indexed_from
 indexed_of_lem s e =
     let a = again s.number s.offset s.swizzle s.kind s.index_kind s.component 1 e (lit< tt) in
     let d : value_of layout.indirect (operand_field (Indexed s)) ≡ 1 = ap (λ l. get_or l 6 0) a in
-    let r : indexed_of_lem (operand_field (Indexed s)) ≡ s = ap indexed_from a in
+    let r : indexed_of (operand_field (Indexed s)) ≡ s = ap indexed_from a in
     rw (ne_eqb (value_of layout.indirect (operand_field (Indexed s))) 0 (λ z. omega (arith, d, z))) (ap Indexed r)

@@ -39,8 +39,8 @@ destination_field (Masked r) = register_field r
 
 -- ---- a source
 
-unfoldable pub source_fits_lem : ℕ → ℕ → ℕ → ℕ → ℕ → ℕ → Bool
-source_fits_lem n o s t i q =
+unfoldable pub source_fits : ℕ → ℕ → ℕ → ℕ → ℕ → ℕ → Bool
+source_fits n o s t i q =
     fits layout.kind t && fits layout.index_kind i && fits layout.component q
     && fits layout.number n && fits layout.offset o && fits layout.swizzle s
 
@@ -95,9 +95,9 @@ operand_fits NoField (Indexed s) = false
 operand_fits NoField (Sampled s) = false
 operand_fits SourceField NoOperand = false
 operand_fits SourceField (Direct s) =
-    source_fits_lem s.number s.offset s.swizzle s.kind s.index_kind s.component
+    source_fits s.number s.offset s.swizzle s.kind s.index_kind s.component
 operand_fits SourceField (Indexed s) =
-    source_fits_lem s.number s.offset s.swizzle s.kind s.index_kind s.component
+    source_fits s.number s.offset s.swizzle s.kind s.index_kind s.component
 operand_fits SourceField (Sampled s) = false
 operand_fits SamplerField NoOperand = false
 operand_fits SamplerField (Direct s) = false

@@ -6,7 +6,7 @@ use mathlib.Core.Path.{◌≡◌, refl}
 use lib.Dec.{eqb}
 use Rattle.layout.specs.Layout as layout
 use Rattle.layout.specs.Layout.{value_of}
-use Rattle.layout.specs.Records.{direct_of_lem, indexed_of_lem, source_of}
+use Rattle.layout.specs.Records.{direct_of, indexed_of, source_of}
 use Rattle.layout.specs.declared.record.Operand.TheVariants.{Direct, Indexed}
 use Rattle.components.specs.Reads.{dimension_of}
 
@@ -14,6 +14,6 @@ use Rattle.components.specs.Reads.{dimension_of}
 pub source_dimension : (field : ℕ) → dimension_of (source_of field) ≡ 0
 source_dimension field = go (eqb (value_of layout.indirect field) 0)
   where
-    go : (b : Bool) → dimension_of (cond b (Direct (direct_of_lem field)) (Indexed (indexed_of_lem field))) ≡ 0
+    go : (b : Bool) → dimension_of (cond b (Direct (direct_of field)) (Indexed (indexed_of field))) ≡ 0
     go true = refl
     go false = refl

@@ -6,7 +6,7 @@ use mathlib.Core.Path.{◌≡◌, refl, sym, ap, ap₂, subst, fun_ext, ◌∙�
 use lib.Dec.{eqb, eqb→eq}
 use Rattle.laws.proofs.Every.{neither}
 use Rattle.layout.specs.Opcodes.{kil, tex, openers, is_matrix, is_opener, row_count2, holds, row_of, shape_of_row, shape_of}
-use Rattle.layout.specs.Records.{register_of_lem, direct_of_lem, is_indexed, indexed_of_lem, sampler_of, source_of, operand_of, token_of}
+use Rattle.layout.specs.Records.{register_of, direct_of, is_indexed, indexed_of, sampler_of, source_of, operand_of, token_of}
 use Rattle.layout.specs.computed.Sets.{named_set, selector_set1, selector_set2, read_set2}
 use Rattle.layout.specs.declared.fields.Fields.{Fields}
 use Rattle.layout.specs.declared.opcodes.OperandShape.{OperandShape}
@@ -34,12 +34,12 @@ with_meaning Means r b e m = (e, subst Means (sym e) m)
 -- What a source does not lack, it does not read unwritten. An indexed one is asked for its index; what is asked of a direct one says no only
 -- where that is so.
 none_lacking : (s : Written) (rows : ℕ) (components : ℕ → ℕ) (field : ℕ) (asked : Bool)
-    → (asked ≡ false → lacks_access s (direct_access rows components (direct_of_lem field)) ≡ false)
-    → cond (is_indexed field) (lacks_access s (index_access (indexed_of_lem field))) asked ≡ false
+    → (asked ≡ false → lacks_access s (direct_access rows components (direct_of field)) ≡ false)
+    → cond (is_indexed field) (lacks_access s (index_access (indexed_of field))) asked ≡ false
     → lacks_access s (access_through rows components (source_of field)) ≡ false
 none_lacking s rows components field asked direct e = go (is_indexed field) refl e
   where
-    go : (b : Bool) → is_indexed field ≡ b → cond b (lacks_access s (index_access (indexed_of_lem field))) asked ≡ false
+    go : (b : Bool) → is_indexed field ≡ b → cond b (lacks_access s (index_access (indexed_of field))) asked ≡ false
         → lacks_access s (access_through rows components (source_of field)) ≡ false
     go true i l = ap (λ o. lacks_access s (access_through rows components o)) (indexed_source field i) ∙ l
     go false i l = ap (λ o. lacks_access s (access_through rows components o)) (direct_source field i) ∙ direct l
@@ -49,7 +49,7 @@ none_at_all : (s : Written) (rows : ℕ) (components : ℕ → ℕ) (field : ℕ
     → lacks_access s (access_through rows components (source_of field)) ≡ false
 unfolding may_lack
 none_at_all s rows components field =
-    none_lacking s rows components field _ (λ l. sym (none_missing s rows components (direct_of_lem field) l))
+    none_lacking s rows components field _ (λ l. sym (none_missing s rows components (direct_of field) l))
 
 -- or those that all four selectors name
 none_by_four : (s : Written) (field : ℕ) → opener_lacks s field ≡ false → lacks_access s (access_through 1 (λ z. named_set z 15) (source_of field)) ≡ false
@@ -58,7 +58,7 @@ none_by_four s field = none_lacking s 1 (λ z. named_set z 15) field _ (λ l. l)
 
 -- through a field that holds a direct source, or none
 through_direct : (s : Written) (rows : ℕ) (components : ℕ → ℕ) (shape : OperandShape) (field : ℕ) → is_indexed field ≡ false
-    → lacks_access s (direct_access rows components (direct_of_lem field)) ≡ false → lacks_access s (access_through rows components (operand_of shape field)) ≡ false
+    → lacks_access s (direct_access rows components (direct_of field)) ≡ false → lacks_access s (access_through rows components (operand_of shape field)) ≡ false
 through_direct s rows components Unused field i l = refl
 through_direct s rows components Source field i l = ap (λ o. lacks_access s (access_through rows components o)) (direct_source field i) ∙ l
 through_direct s rows components Sampler field i l = refl
@@ -82,7 +82,7 @@ module _ (s : Written) (f : Fields) where
   o = f.opcode
 
   abbrev mask : ℕ
-  mask = (register_of_lem f.destination).mask
+  mask = (register_of f.destination).mask
 
   abbrev ReadsBy : Shape → Type 0
   ReadsBy shape = (lacks (component_set s) (temporaries (reads1 (token_of shape f))) ≡ false) × (lacks (component_set s) (temporaries (reads2 (token_of shape f))) ≡ false)
@@ -98,7 +98,7 @@ module _ (s : Written) (f : Fields) where
   reads_first shape2 n k l = ap (λ n. lacks_access s (access_through 1 (λ z. named_set z (selector_set1 o mask n)) (source_of f.source1))) k ∙ l
 
   direct_first : (shape2 : OperandShape) (n : ℕ) → dimension_of (operand_of shape2 f.source2) ≡ n → is_indexed f.source1 ≡ false
-      → lacks_access s (selected_access (selector_set1 o mask n) (direct_of_lem f.source1)) ≡ false
+      → lacks_access s (selected_access (selector_set1 o mask n) (direct_of f.source1)) ≡ false
       → lacks_access s (access1_of (token_of (holds true Source shape2) f)) ≡ false
   direct_first shape2 n k i l = reads_first shape2 n k (through_direct s 1 (λ z. named_set z (selector_set1 o mask n)) Source f.source1 i l)
 
@@ -116,7 +116,7 @@ module _ (s : Written) (f : Fields) where
       let p = is_ordinary_lem o is in
       let (whole, not-sampler) = ordinary_shape o p in
       let shape2 = (shape_of o).source2 in
-      let (l, r) = neither (lacks_access s (selected_access (selector_set1 o mask 0) (direct_of_lem f.source1))) (lacks_access s (selected_access (selector_set2 o mask) (direct_of_lem f.source2))) e in
+      let (l, r) = neither (lacks_access s (selected_access (selector_set1 o mask 0) (direct_of f.source1))) (lacks_access s (selected_access (selector_set2 o mask) (direct_of f.source2))) e in
       reads_by (holds true Source shape2) whole
       (direct_first shape2 0 (no_dimension shape2 not-sampler f.source2) direct.0 l)
       (second_selected p.matrix mask shape2 (through_direct s 1 (λ z. named_set z (selector_set2 o mask)) shape2 f.source2 direct.1 r))
@@ -124,10 +124,10 @@ module _ (s : Written) (f : Fields) where
   pub matrix_reads : MatrixReads (matrix_may_read_unwritten s f) s f
   unfolding matrix_may_read_unwritten token_of
   matrix_reads e is direct =
-      let (l, r) = neither (lacks_access s (selected_access (selector_set1 o mask 0) (direct_of_lem f.source1))) (lacks_some s (row_count2 o) (direct_of_lem f.source2)) e in
+      let (l, r) = neither (lacks_access s (selected_access (selector_set1 o mask 0) (direct_of f.source1))) (lacks_some s (row_count2 o) (direct_of f.source2)) e in
       reads_by (holds true Source Source) (matrix_shape o is)
       (direct_first Source 0 (source_dimension f.source2) direct.0 l)
-      (through_direct s (row_count2 o) (read_set2 o mask) Source f.source2 direct.1 (sym (none_missing s (row_count2 o) (read_set2 o mask) (direct_of_lem f.source2) r)))
+      (through_direct s (row_count2 o) (read_set2 o mask) Source f.source2 direct.1 (sym (none_missing s (row_count2 o) (read_set2 o mask) (direct_of f.source2) r)))
 
   coordinates : o ≡ tex → (n : ℕ) → selector_set1 o mask n ≡ selector_set1 tex mask n
   coordinates e n = ap (λ o. selector_set1 o mask n) e
@@ -137,7 +137,7 @@ module _ (s : Written) (f : Fields) where
   tex_reads e is direct =
       let n = (sampler_of f.source2).dimension in
       reads_by (holds true Source Sampler) (ap shape_of is)
-      (direct_first Sampler n refl direct (ap (λ c. lacks_access s (selected_access c (direct_of_lem f.source1))) (coordinates is n) ∙ e))
+      (direct_first Sampler n refl direct (ap (λ c. lacks_access s (selected_access c (direct_of f.source1))) (coordinates is n) ∙ e))
       refl
 
   pub indexed_reads : IndexedReads (indexed_may_read_unwritten s f) s f
@@ -173,5 +173,5 @@ module _ (s : Written) (f : Fields) where
   unfolding kil_may_read_unwritten token_of row_of shape_of_row selector_set1
   kil_reads e is direct =
       reads_by (holds false Source Unused) (ap shape_of is)
-      (through_direct s 1 (λ z. named_set z (selector_set1 o 0 0)) Source f.source1 direct (ap (λ o. lacks_access s (selected_access (selector_set1 o 0 0) (direct_of_lem f.source1))) is ∙ e))
+      (through_direct s 1 (λ z. named_set z (selector_set1 o 0 0)) Source f.source1 direct (ap (λ o. lacks_access s (selected_access (selector_set1 o 0 0) (direct_of f.source1))) is ∙ e))
       refl

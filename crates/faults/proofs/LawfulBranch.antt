@@ -10,7 +10,7 @@ use borrow.Author.Tests.{ne_eqb, eqb-true, eqb-false, not-true}
 use Rattle.laws.proofs.Every.{left, right}
 use Rattle.layout.specs.Opcodes.{openers, bare_opcodes, is_fragment_only, is_matrix, is_opener, shape_of, flow_of}
 use Rattle.layout.specs.computed.Groups.{is_branch, source_shape}
-use Rattle.layout.specs.Records.{direct_of_lem, token_of}
+use Rattle.layout.specs.Records.{direct_of, token_of}
 use Rattle.layout.specs.declared.fields.Fields.{Fields}
 use Rattle.layout.specs.declared.opcodes.Flow.TheVariants.{Opener}
 use Rattle.layout.specs.declared.opcodes.OperandShape.TheVariants.{Source}
@@ -60,8 +60,8 @@ module _ (edition stage : ℕ) (f : Fields) where
       let matrix = none_of (openers ++ bare_opcodes) is_matrix tt o branch in
       let new : opcode_too_new edition o ≡ false = rw (ne_eqb edition 1 later) in
       let through = subst (λ n. LawfulSource edition stage (source_shape opener) n f.source2) (sym (one_row o (outside_matrices o matrix))) second in
-      together edition stage f (source_shape opener) whole (no_destination edition stage o f.destination none) first branch new (no_stage edition stage o fragment) (no_selectors edition stage o fragment (direct_of_lem f.source1).swizzle)
-      through.defined (through.right (swizzle_wrong true o) (ap (λ b. b && not (eqb (direct_of_lem f.source2).swizzle 0xe4)) matrix)) Enough (branch_reads opener is whole)
+      together edition stage f (source_shape opener) whole (no_destination edition stage o f.destination none) first branch new (no_stage edition stage o fragment) (no_selectors edition stage o fragment (direct_of f.source1).swizzle)
+      through.defined (through.right (swizzle_wrong true o) (ap (λ b. b && not (eqb (direct_of f.source2).swizzle 0xe4)) matrix)) Enough (branch_reads opener is whole)
 
   -- the test of a source, by whether the token is an opener
   abbrev source : Bool → ℕ → Bool

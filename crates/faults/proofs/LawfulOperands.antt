@@ -9,7 +9,7 @@ use borrow.Author.Tests.{eq-eqb, lt-leb, le-ltb, ltb-true, leb-true, not-true}
 use Rattle.laws.proofs.Every.{left, right}
 use Rattle.layout.specs.Layout as layout
 use Rattle.layout.specs.Layout.{value_of, is_stray, destination_bits, operand_bits}
-use Rattle.layout.specs.Records.{is_indexed, direct_of_lem, indexed_of_lem, source_of, operand_of, destination_of}
+use Rattle.layout.specs.Records.{is_indexed, direct_of, indexed_of, source_of, operand_of, destination_of}
 use Rattle.layout.specs.declared.opcodes.OperandShape.{OperandShape}
 use Rattle.layout.specs.declared.opcodes.OperandShape.TheVariants.{Unused, Source, Sampler}
 use Rattle.layout.specs.declared.record.Operand.{Operand}
@@ -22,7 +22,7 @@ use Rattle.faults.specs.Rules.{destination_wrong, mask_wrong, direct_wrong, inde
 use Rattle.faults.specs.computed.Profile.{profile_of, count_in}
 use Rattle.faults.specs.Order.{first_fault, source_rules}
 use Rattle.faults.specs.computed.Faults.{number_of}
-use Rattle.faults.specs.computed.LawfulTests.{count_at_lem, is_source, lawful_source_bits, is_lawful_destination, is_lawful_source, is_rightly_indexed, is_lawful_either}
+use Rattle.faults.specs.computed.LawfulTests.{count_at, is_source, lawful_source_bits, is_lawful_destination, is_lawful_source, is_rightly_indexed, is_lawful_either}
 use Rattle.faults.specs.declared.profile.Profile.{Profile}
 use Rattle.faults.proofs.Counts.{counts_are}
 use Rattle.faults.proofs.UsableCounts.{usable_in, if_used, is_index, readable_counts, writable_counts, indexing_counts}
@@ -30,14 +30,14 @@ use Rattle.faults.proofs.UsableCounts.{usable_in, if_used, is_index, readable_co
 -- no rule of an operand of so many rows, where 18 is not broken
 abbrev NoSourceFault : Profile → ℕ → ℕ → Operand → Type 0
 NoSourceFault profile rows field o =
-    (swizzled : ℕ → Bool) → swizzled (direct_of_lem field).swizzle ≡ false
+    (swizzled : ℕ → Bool) → swizzled (direct_of field).swizzle ≡ false
     → number_of (first_fault (source_rules (count_in profile) profile.stage rows swizzled 0 o)) ≡ 0
 
 module _ (p : Profile) (rows field : ℕ) where
-  right_direct : is_indexed field ≡ false → direct_wrong (count_in p) p.stage rows (direct_of_lem field) ≡ false → NoSourceFault p rows field (source_of field)
+  right_direct : is_indexed field ≡ false → direct_wrong (count_in p) p.stage rows (direct_of field) ≡ false → NoSourceFault p rows field (source_of field)
   right_direct i d swizzled h = ap (λ o. number_of (first_fault (source_rules (count_in p) p.stage rows swizzled 0 o))) (direct_source field i) ∙ simp (d, h)
 
-  right_indexed : is_indexed field ≡ true → indexed_wrong (count_in p) p.stage rows (indexed_of_lem field) ≡ false → NoSourceFault p rows field (source_of field)
+  right_indexed : is_indexed field ≡ true → indexed_wrong (count_in p) p.stage rows (indexed_of field) ≡ false → NoSourceFault p rows field (source_of field)
   right_indexed i d swizzled h = ap (λ o. number_of (first_fault (source_rules (count_in p) p.stage rows swizzled 0 o))) (indexed_source field i) ∙ simp (d, h)
 
 -- a field of bits without D is not indexed
@@ -86,11 +86,11 @@ module _ (edition stage : ℕ) where
       let number = value_of layout.number field in
       let wrong = mask_wrong opcode (destination_of true field) in
       let kept = not (is_stray 0x070fffff field) in
-      let low = ltb number (count_at_lem (usable_in edition stage).writable kind) in
+      let low = ltb number (count_at (usable_in edition stage).writable kind) in
       let both = left (kept && low) (not wrong) e in
       let stray = not-true (is_stray 0x070fffff field) (left kept low both) in
       let small = value_within layout.masked_kind 0x070fffff field stray in
-      let (u, l) = counted is_writable number (count_at_lem (usable_in edition stage).writable kind) kind (writable_counts edition stage kind (omega (arith, small))) (ltb-true number _ (right kept low both)) in
+      let (u, l) = counted is_writable number (count_at (usable_in edition stage).writable kind) kind (writable_counts edition stage kind (omega (arith, small))) (ltb-true number _ (right kept low both)) in
       record {
         defined = wider 0x070fffff (destination_bits true) field refl stray;
         right = rw (u, lt-leb (count_in profile kind) number l);
@@ -113,9 +113,9 @@ module _ (edition stage : ℕ) where
       let number = value_of layout.number field in
       let small = value_within layout.kind (lawful_source_bits true) field stray in
       let no-offset = value_within layout.offset (lawful_source_bits true) field stray in
-      let within = leb-true (number + rows) (count_at_lem (usable_in edition stage).readable kind) (right (not (is_stray (lawful_source_bits true) field)) _ e) in
-      let (u, l) = counted is_readable (number + (rows - 1)) (count_at_lem (usable_in edition stage).readable kind) kind (readable_counts edition stage kind (omega (arith, small))) (omega (arith, within, some)) in
-      let d : direct_wrong (count_in profile) stage rows (direct_of_lem field) ≡ false = rw (u, le-ltb (count_in profile kind) (number + rows) (omega (arith, l, some)), eq-eqb (value_of layout.offset field) 0 (omega (arith, no-offset))) in
+      let within = leb-true (number + rows) (count_at (usable_in edition stage).readable kind) (right (not (is_stray (lawful_source_bits true) field)) _ e) in
+      let (u, l) = counted is_readable (number + (rows - 1)) (count_at (usable_in edition stage).readable kind) kind (readable_counts edition stage kind (omega (arith, small))) (omega (arith, within, some)) in
+      let d : direct_wrong (count_in profile) stage rows (direct_of field) ≡ false = rw (u, le-ltb (count_in profile kind) (number + rows) (omega (arith, l, some)), eq-eqb (value_of layout.offset field) 0 (omega (arith, no-offset))) in
       let i = not_indexed (lawful_source_bits true) field refl stray in
       record {
         defined = wider (lawful_source_bits true) (operand_bits Source) field refl stray;
@@ -156,16 +156,16 @@ module _ (edition stage : ℕ) where
     lawful_indexed i e =
         let kept = not (is_stray indexed_bits field) in
         let constant = eqb (value_of layout.kind field) 1 in
-        let low = ltb number (count_at_lem (usable_in edition stage).indexing kind) in
-        let within = leb (offset + rows) (count_at_lem (usable_in edition stage).readable 1) in
+        let low = ltb number (count_at (usable_in edition stage).indexing kind) in
+        let within = leb (offset + rows) (count_at (usable_in edition stage).readable 1) in
         let three = left (kept && constant && low) within e in
         let two = left (kept && constant) low three in
         let stray = not-true (is_stray indexed_bits field) (left kept constant two) in
         let small = value_within layout.index_kind indexed_bits field stray in
-        let end = leb-true (offset + rows) (count_at_lem (usable_in edition stage).readable 1) (right (kept && constant && low) within e) in
-        let (index, below) = counted is_index number (count_at_lem (usable_in edition stage).indexing kind) kind (indexing_counts edition stage kind (omega (arith, small))) (ltb-true number _ (right (kept && constant) low three)) in
-        let (_, room) = counted is_readable (offset + (rows - 1)) (count_at_lem (usable_in edition stage).readable 1) 1 (readable_counts edition stage 1 (omega arith)) (omega (arith, end, some)) in
-        let d : indexed_wrong (count_in profile) stage rows (indexed_of_lem field) ≡ false =
+        let end = leb-true (offset + rows) (count_at (usable_in edition stage).readable 1) (right (kept && constant && low) within e) in
+        let (index, below) = counted is_index number (count_at (usable_in edition stage).indexing kind) kind (indexing_counts edition stage kind (omega (arith, small))) (ltb-true number _ (right (kept && constant) low three)) in
+        let (_, room) = counted is_readable (offset + (rows - 1)) (count_at (usable_in edition stage).readable 1) 1 (readable_counts edition stage 1 (omega arith)) (omega (arith, end, some)) in
+        let d : indexed_wrong (count_in profile) stage rows (indexed_of field) ≡ false =
         rw (
           left (eqb stage 0) (ltb kind 3) index,
           right kept constant two,

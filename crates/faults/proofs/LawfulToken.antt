@@ -14,7 +14,7 @@ use Rattle.layout.specs.Layout as layout
 use Rattle.layout.specs.Layout.{value_of, is_stray, operand_bits}
 use Rattle.layout.specs.Opcodes.{tex, is_added, is_matrix, row_of, shape_of_row, shape_of, holds, row_count2}
 use Rattle.layout.specs.computed.Groups.{is_branch}
-use Rattle.layout.specs.Records.{is_indexed, direct_of_lem, operand_of, destination_of, sampler_of, token_of}
+use Rattle.layout.specs.Records.{is_indexed, direct_of, operand_of, destination_of, sampler_of, token_of}
 use Rattle.layout.specs.declared.fields.Fields.{Fields}
 use Rattle.layout.specs.declared.opcodes.OperandShape.{OperandShape}
 use Rattle.layout.specs.declared.opcodes.OperandShape.TheVariants.{Source, Sampler}
@@ -81,7 +81,7 @@ module _ (edition stage : ℕ) where
     pub together : {branch used : Bool} {shape1 : OperandShape} (shape2 : OperandShape) → shape_of o ≡ holds used shape1 shape2
         → LawfulDestination edition stage used o f.destination → LawfulSource edition stage shape1 1 f.source1
         → is_branch o ≡ branch → opcode_too_new edition o ≡ false → opcode_not_for_stage stage o ≡ false
-        → swizzle_wrong false o (direct_of_lem f.source1).swizzle ≡ false
+        → swizzle_wrong false o (direct_of f.source1).swizzle ≡ false
         → is_stray (operand_bits shape2) f.source2 ≡ false
         → number_of (first_fault (source_rules (count_in profile) stage (row_count2 o) (swizzle_wrong true o) 0 (operand_of shape2 f.source2))) ≡ 0
         → (Enough : Written → Type 0) → ((s : Written) → Enough s → ReadsWritten s f) → ToldLawful branch used Enough f
@@ -102,7 +102,7 @@ module _ (edition stage : ℕ) where
         → LawfulSource edition stage (shape_of o).source2 (row_count2 o) f.source2 → (eqb (row_count2 o) 1 || eqb (value_of layout.swizzle f.source2) 0xe4) ≡ true
         → (unwritten : Written → Fields → Bool) → ((s : Written) → unwritten s f ≡ false → ReadsWritten s f) → LawfulToken unwritten f
     by_opcode rules into from through unswizzled unwritten reads =
-        together (shape_of o).source2 rules.shape.0 into from rules.flow rules.new rules.for_stage (rules.swizzle1 (direct_of_lem f.source1).swizzle)
+        together (shape_of o).source2 rules.shape.0 into from rules.flow rules.new rules.for_stage (rules.swizzle1 (direct_of f.source1).swizzle)
         through.defined (through.right (swizzle_wrong true o) (rules.swizzle2 (value_of layout.swizzle f.source2) unswizzled)) (λ s. unwritten s f ≡ false) reads
 
     module _ (e : (destination && first) ≡ true) where
@@ -181,7 +181,7 @@ module _ (edition stage : ℕ) where
         let both = left (destination && first) (eqb stage 1) three in
         let right-sampler = not-true wrong (right (destination && first && eqb stage 1 && not stray) (not wrong) e) in
         together Sampler (ap shape_of is) (into both) (from both) (ap is_branch is) (no_edition edition stage o (ap is_added is)) (in_fragment edition stage o (right (destination && first) (eqb stage 1) three))
-        (ap (λ o. swizzle_wrong false o (direct_of_lem f.source1).swizzle) is)
+        (ap (λ o. swizzle_wrong false o (direct_of f.source1).swizzle) is)
         (not-true stray (right (destination && first && eqb stage 1) (not stray) four))
         (rw right-sampler)
         (λ s. tex_may_read_unwritten s f ≡ false) (λ s l. tex_reads s f l is (direct_first both))

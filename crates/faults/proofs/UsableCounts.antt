@@ -15,7 +15,7 @@ use Rattle.registers.specs.Uses.{is_readable, is_writable}
 use Rattle.registers.proofs.Outside.{outside_edition, outside_stage}
 use Rattle.registers.proofs.Packed.{none_packed}
 use Rattle.faults.specs.computed.Profile.{profile_of}
-use Rattle.faults.specs.computed.LawfulTests.{usable, usable_of, count_at_lem}
+use Rattle.faults.specs.computed.LawfulTests.{usable, usable_of, count_at}
 use Rattle.faults.specs.declared.lawful.Usable.{Usable}
 use Rattle.faults.specs.declared.profile.Profile.{Profile}
 
@@ -41,7 +41,7 @@ is_index kind stage = eqb stage 0 && ltb kind 3
 
 -- some counts are those of the table
 abbrev pub Agree : (Usable → ℕ) → (ℕ → ℕ → Bool) → ℕ → ℕ → ℕ → Type 0
-Agree counts used edition stage kind = count_at_lem (counts (usable_in edition stage)) kind ≡ if_used used edition stage kind
+Agree counts used edition stage kind = count_at (counts (usable_in edition stage)) kind ≡ if_used used edition stage kind
 
 -- where there are no registers
 abbrev bare : ℕ → ℕ → Profile
@@ -50,13 +50,13 @@ bare edition stage = record { edition = edition; stage = stage; counts = 0 }
 -- by one test of every edition, stage and kind
 module _ (counts : Usable → ℕ) (used : ℕ → ℕ → Bool) where
   agrees : ℕ → ℕ → ℕ → Bool
-  agrees edition stage kind = eqb (count_at_lem (counts (usable_in edition stage)) kind) (if_used used edition stage kind)
+  agrees edition stage kind = eqb (count_at (counts (usable_in edition stage)) kind) (if_used used edition stage kind)
 
   none_agree : ((edition stage : ℕ) → counts (usable_of (bare edition stage)) ≡ 0) → (edition stage kind : ℕ) → ((k : ℕ) → count_of k edition stage ≡ 0)
       → Agree counts used edition stage kind
   none_agree empty edition stage kind h =
-      ap (λ n. count_at_lem (counts (usable_of (record { edition = edition; stage = stage; counts = n }))) kind) (sym (none_packed (λ k. count_of k edition stage) h))
-      ∙ ap (λ n. count_at_lem n kind) (empty edition stage)
+      ap (λ n. count_at (counts (usable_of (record { edition = edition; stage = stage; counts = n }))) kind) (sym (none_packed (λ k. count_of k edition stage) h))
+      ∙ ap (λ n. count_at n kind) (empty edition stage)
       ∙ ap (λ n. n % 256) (zero-div (2 ^ (8 * (kind % 8))))
       ∙ unused (used kind stage) (h kind)
     where

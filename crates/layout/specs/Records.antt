@@ -20,16 +20,16 @@ use Rattle.layout.specs.declared.record.Token.{Token}
 unfoldable pub signed : ℕ → ℤ
 signed b = cond (ltb b 128) (pos b) (negsuc (255 - b))
 
-abbrev pub register_of_lem : ℕ → MaskedRegister
-register_of_lem f =
+abbrev pub register_of : ℕ → MaskedRegister
+register_of f =
     record {
       number = value_of layout.number f;
       mask = value_of layout.mask f;
       kind = value_of layout.masked_kind f;
     }
 
-abbrev pub direct_of_lem : ℕ → DirectSource
-direct_of_lem f =
+abbrev pub direct_of : ℕ → DirectSource
+direct_of f =
     record {
       number = value_of layout.number f;
       offset = value_of layout.offset f;
@@ -39,8 +39,8 @@ direct_of_lem f =
       component = value_of layout.component f;
     }
 
-abbrev pub indexed_of_lem : ℕ → IndexedSource
-indexed_of_lem f =
+abbrev pub indexed_of : ℕ → IndexedSource
+indexed_of f =
     record {
       number = value_of layout.number f;
       offset = value_of layout.offset f;
@@ -55,7 +55,7 @@ abbrev pub is_indexed : ℕ → Bool
 is_indexed f = not (eqb (value_of layout.indirect f) 0)
 
 abbrev pub source_of : ℕ → Operand
-source_of f = cond (eqb (value_of layout.indirect f) 0) (Direct (direct_of_lem f)) (Indexed (indexed_of_lem f))
+source_of f = cond (eqb (value_of layout.indirect f) 0) (Direct (direct_of f)) (Indexed (indexed_of f))
 
 abbrev pub sampler_of : ℕ → Sampler
 sampler_of f =
@@ -71,7 +71,7 @@ sampler_of f =
     }
 
 abbrev pub destination_of : Bool → ℕ → Destination
-destination_of true f = Masked (register_of_lem f)
+destination_of true f = Masked (register_of f)
 destination_of false f = NoDestination
 
 abbrev pub operand_of : OperandShape → ℕ → Operand

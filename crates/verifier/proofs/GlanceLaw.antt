@@ -10,7 +10,7 @@ use Rattle.bytecode.specs.Decode.{no_refusal}
 use Rattle.bytecode.specs.computed.CleanFields.{is_clean}
 use Rattle.bytecode.specs.Fields.{fields_of}
 use Rattle.layout.specs.Opcodes.{shape_of, flow_of}
-use Rattle.layout.specs.Records.{register_of_lem, destination_of, token_of}
+use Rattle.layout.specs.Records.{register_of, destination_of, token_of}
 use Rattle.layout.specs.declared.fields.Fields.{Fields}
 use Rattle.layout.specs.declared.opcodes.Flow.{Flow}
 use Rattle.layout.specs.declared.opcodes.Flow.TheVariants.{Plain, Opener, Els, Eif}
@@ -108,7 +108,7 @@ passed : (edition stage : ℕ) (unwritten : Written → Fields → Bool) (f : Fi
 passed edition stage unwritten f p current true u r e k st sound at token = absurd (false≢true (sym (ap (λ r. r.known) e) ∙ k))
 passed edition stage unwritten f p current false u r e k st sound at token =
     passes st sound token edition stage true (λ w. unwritten w f ≡ false) f p (ap (λ w. unwritten w f) at ∙ sym u)
-    ∙ ap (λ w. with_current st w) (ap (λ w. written_by w (register_of_lem f.destination)) at ∙ sym (ap (λ r. r.current) e))
+    ∙ ap (λ w. with_current st w) (ap (λ w. written_by w (register_of f.destination)) at ∙ sym (ap (λ r. r.current) e))
 
 -- By a test that tells lawful tokens, with the test that goes with it of what they read: `told` and `asked` are what the code was answered.
 module _ (f : Fields) (test : Profile → Usable → Bool) (unwritten : Written → Fields → Bool)

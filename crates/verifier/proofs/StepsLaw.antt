@@ -24,7 +24,7 @@ use Rattle.faults.specs.computed.Faults.{undecoded_fault}
 use Rattle.faults.specs.Order.{tokens_from, tokens_of}
 use Rattle.faults.specs.computed.Profile.{profile_of}
 use Rattle.faults.specs.declared.profile.Profile.{Profile}
-use Rattle.verifier.specs.computed.State.{none_written_lem, start_state, with_fault}
+use Rattle.verifier.specs.computed.State.{none_written, start_state, with_fault}
 use Rattle.verifier.specs.computed.Step.{fault_of_fields, step_of}
 use Rattle.verifier.specs.computed.Steps.{steps_over, finish_of, judged_by, opens_unlisted}
 use Rattle.verifier.specs.Verdict.{program, answer_of}
@@ -45,7 +45,7 @@ fields_read bytes n h =
 
 -- ---- the state before the first token
 
-none_set : (r : ℕ) → half_of none_written_lem r ≡ 0
+none_set : (r : ℕ) → half_of none_written r ≡ 0
 none_set r = go (ltb r 16) (ltb r 32) 0
   where
     go : (a b : Bool) (z : ℕ) → cond a z (cond b z z) ≡ z
@@ -53,7 +53,7 @@ none_set r = go (ltb r 16) (ltb r 32) 0
     go false true z = refl
     go false false z = refl
 
-none_written_lem : component_set none_written_lem ≡ nothing
+none_written_lem : component_set none_written ≡ nothing
 none_written_lem = fun_ext (λ n. rw (none_set (n / 4), zero-div (2 ^ (n % 64))))
 
 start_is : abstract_of start_state ≡ start

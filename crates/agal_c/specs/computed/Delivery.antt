@@ -2,7 +2,7 @@
 -- field.
 use Rattle.std.specs.Prelude.{ℕ, ◌+◌, ◌*◌, ◌/◌, ◌%◌, cond, List, eqb, ltb, length}
 use Rattle.layout.specs.Opcodes.{shape_of}
-use Rattle.layout.specs.Records.{direct_of_lem}
+use Rattle.layout.specs.Records.{direct_of}
 use Rattle.bytecode.specs.Fields.{fields_of}
 use Rattle.bytecode.specs.Decode.{refusal}
 use Rattle.bytecode.specs.declared.answers.Decoded.{Decoded}
@@ -29,5 +29,5 @@ code_answer code place next =
 -- a form, and the values of a source's field: a direct and an indexed source have the same rows
 abbrev pub source_values : ℕ → ℕ → Values
 source_values form field =
-    let s = direct_of_lem field in
+    let s = direct_of field in
     values form s.number s.offset s.swizzle s.kind s.index_kind s.component 0 0

@@ -29,8 +29,8 @@ usable_of p =
     (usable (ordinary_set p.edition) (bit_and p.counts 0xff00ffff00) (bit_and p.counts 0xff0000ffff0000) 0)
 
 -- the count of a kind below 8
-abbrev pub count_at_lem : ℕ → ℕ → ℕ
-count_at_lem counts kind = counts / 2 ^ (8 * (kind % 8)) % 256
+abbrev pub count_at : ℕ → ℕ → ℕ
+count_at counts kind = counts / 2 ^ (8 * (kind % 8)) % 256
 
 abbrev pub is_source : OperandShape → Bool
 is_source Unused = false
@@ -44,22 +44,22 @@ lawful_source_bits used = cond used 0x00030f07ff00ffff 0
 unfoldable pub is_lawful_destination : ℕ → ℕ → ℕ → Bool
 is_lawful_destination writable opcode field =
     not (is_stray 0x070fffff field)
-    && ltb (value_of layout.number field) (count_at_lem writable (value_of layout.masked_kind field))
+    && ltb (value_of layout.number field) (count_at writable (value_of layout.masked_kind field))
     && not (mask_wrong opcode (destination_of true field))
 
 -- a source of so many rows
 unfoldable pub is_lawful_source : ℕ → Bool → ℕ → ℕ → Bool
 is_lawful_source readable used rows field =
     not (is_stray (lawful_source_bits used) field)
-    && (not used || leb (value_of layout.number field + rows) (count_at_lem readable (value_of layout.kind field)))
+    && (not used || leb (value_of layout.number field + rows) (count_at readable (value_of layout.kind field)))
 
 -- an indexed source of so many rows: a constant, by a register that may be an index
 unfoldable pub is_rightly_indexed : Usable → ℕ → ℕ → Bool
 is_rightly_indexed u rows field =
     not (is_stray 0x80030701ffffffff field)
     && eqb (value_of layout.kind field) 1
-    && ltb (value_of layout.number field) (count_at_lem u.indexing (value_of layout.index_kind field))
-    && leb (value_of layout.offset field + rows) (count_at_lem u.readable 1)
+    && ltb (value_of layout.number field) (count_at u.indexing (value_of layout.index_kind field))
+    && leb (value_of layout.offset field + rows) (count_at u.readable 1)
 
 -- an indexed source, a direct one, or none
 unfoldable pub is_lawful_either : Usable → Bool → ℕ → ℕ → Bool

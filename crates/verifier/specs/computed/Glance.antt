@@ -1,6 +1,6 @@
 -- What is known of a token that is passed at a glance: what its step makes of the state.
 use Rattle.std.specs.Prelude.{ℕ, ◌+◌, ◌*◌, ◌-◌, ◌≤◌, ◌<◌, Bool, true, false, List, ◌≡◌, length}
-use Rattle.layout.specs.Records.{register_of_lem}
+use Rattle.layout.specs.Records.{register_of}
 use Rattle.layout.specs.declared.fields.Fields.{Fields}
 use Rattle.layout.specs.declared.opcodes.Flow.{Flow}
 use Rattle.layout.specs.declared.opcodes.Flow.TheVariants.{Plain, Opener, Els, Eif}
@@ -21,7 +21,7 @@ use Rattle.verifier.specs.declared.state.State.{State}
 -- a token without a fault of its own, unless it may read what is not written
 abbrev pub passed_unless : Bool → Written → Fields → Passed
 passed_unless true current f = record { known = false; current = current }
-passed_unless false current f = record { known = true; current = written_by current (register_of_lem f.destination) }
+passed_unless false current f = record { known = true; current = written_by current (register_of f.destination) }
 
 -- what holds of every state without a fault whose set at hand is this, under the profile of an edition and a stage and what is usable there
 abbrev pub Whenever : Profile → Usable → Written → (Profile → State → Type 0) → Type 0

@@ -13,8 +13,8 @@ use Rattle.layout.specs.declared.record.Destination.TheVariants.{Unused as NoDes
 use Rattle.verifier.specs.declared.state.Branch.{Branch}
 use Rattle.verifier.specs.declared.state.State.{State}
 
-abbrev pub none_written_lem : Written
-none_written_lem = record { low = 0; high = 0 }
+abbrev pub none_written : Written
+none_written = record { low = 0; high = 0 }
 
 abbrev pub branch : Written → ℕ → ℕ → Branch
 branch kept opener els_met = record { kept = kept; opener = opener; els_met = els_met }
@@ -22,10 +22,10 @@ branch kept opener els_met = record { kept = kept; opener = opener; els_met = el
 abbrev pub start_state : State
 start_state =
     record {
-      current = none_written_lem;
-      innermost = branch none_written_lem 0 0;
+      current = none_written;
+      innermost = branch none_written 0 0;
       depth = 0;
-      kept = replicate 16 none_written_lem;
+      kept = replicate 16 none_written;
       openers = replicate 16 0;
       els_met = replicate 16 0;
       fault = no_refusal;
@@ -41,7 +41,7 @@ slot_around depth = (depth % 16 + 14) % 16
 
 -- the branch at a place of the arrays
 abbrev pub branch_at : State → ℕ → Branch
-branch_at st i = branch (get_or st.kept i none_written_lem) (get_or st.openers i 0) (get_or st.els_met i 0)
+branch_at st i = branch (get_or st.kept i none_written) (get_or st.openers i 0) (get_or st.els_met i 0)
 
 -- 20
 abbrev pub is_out_of_place : Flow → ℕ → ℕ → Bool

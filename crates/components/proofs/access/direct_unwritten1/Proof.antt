@@ -2,7 +2,7 @@
 -- Assumes nothing.
 use mathlib.Core.Path.{◌∙◌, sym}
 use borrow.Author.Tests.{not-true, not-false}
-use Rattle.layout.specs.Records.{direct_of_lem, token_of}
+use Rattle.layout.specs.Records.{direct_of, token_of}
 use Rattle.components.specs.computed.Access.{direct_access, components1_of}
 use Rattle.components.proofs.AccessLaws.{temporary, none_missing, lacking}
 use borrow.Author.Rules.{rules}
@@ -15,7 +15,7 @@ lacks-some-requires c κs = search rules
 returns : tie.Need-returns
 returns c =
     let a = c.before.before.args in
-    none_missing a.current 1 (components1_of (token_of a.shape a.f)) (direct_of_lem a.f.source1) (sym c.before.lacks-some.ensures ∙ not-true _ c.if1.true)
+    none_missing a.current 1 (components1_of (token_of a.shape a.f)) (direct_of a.f.source1) (sym c.before.lacks-some.ensures ∙ not-true _ c.if1.true)
 
 mask-of-requires : tie.Need-mask-of-requires
 mask-of-requires c κs = search rules
@@ -49,8 +49,8 @@ returns-2 c =
       selected.before.dimension-of.ensures,
       selected.before.before.mask-of.ensures,
     )
-    (temporary a.current (direct_access 1 (components1_of (token_of a.shape a.f)) (direct_of_lem a.f.source1))
-    (lacking a.current 1 (direct_of_lem a.f.source1) (sym entry.before.lacks-some.ensures ∙ not-false _ entry.if1.false)))
+    (temporary a.current (direct_access 1 (components1_of (token_of a.shape a.f)) (direct_of a.f.source1))
+    (lacking a.current 1 (direct_of a.f.source1) (sym entry.before.lacks-some.ensures ∙ not-false _ entry.if1.false)))
 
 pub direct-unwritten1-spec : {M : Type 1} → statement M
 direct-unwritten1-spec =

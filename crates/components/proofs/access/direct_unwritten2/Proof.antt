@@ -2,7 +2,7 @@
 -- Assumes nothing.
 use mathlib.Core.Path.{◌∙◌, sym, ap}
 use borrow.Author.Tests.{not-true, not-false}
-use Rattle.layout.specs.Records.{direct_of_lem, token_of}
+use Rattle.layout.specs.Records.{direct_of, token_of}
 use Rattle.layout.specs.Opcodes.{row_count2}
 use Rattle.components.specs.computed.Access.{lacks_some, direct_access, components2_of}
 use Rattle.components.proofs.AccessLaws.{temporary, none_missing, lacking}
@@ -19,8 +19,8 @@ lacks-some-requires c κs = search rules
 returns : tie.Need-returns
 returns c =
     let a = c.before.before.before.args in
-    let rows = ap (λ n. lacks_some a.current n (direct_of_lem a.f.source2)) c.before.before.rows2.ensures in
-    none_missing a.current (row_count2 a.f.opcode) (components2_of (token_of a.shape a.f)) (direct_of_lem a.f.source2) (sym (c.before.lacks-some.ensures ∙ rows) ∙ not-true _ c.if1.true)
+    let rows = ap (λ n. lacks_some a.current n (direct_of a.f.source2)) c.before.before.rows2.ensures in
+    none_missing a.current (row_count2 a.f.opcode) (components2_of (token_of a.shape a.f)) (direct_of a.f.source2) (sym (c.before.lacks-some.ensures ∙ rows) ∙ not-true _ c.if1.true)
 
 unpack-direct-requires : tie.Need-unpack-direct-requires
 unpack-direct-requires c κs = search rules
@@ -47,8 +47,8 @@ returns-2 c =
       c.before.before.before.unpack-direct.ensures,
       c.lacks.ensures,
     )
-    (temporary a.current (direct_access (row_count2 a.f.opcode) (components2_of (token_of a.shape a.f)) (direct_of_lem a.f.source2))
-    (lacking a.current entry.before.before.rows2.result (direct_of_lem a.f.source2) (sym some.ensures ∙ not-false _ entry.if1.false)))
+    (temporary a.current (direct_access (row_count2 a.f.opcode) (components2_of (token_of a.shape a.f)) (direct_of a.f.source2))
+    (lacking a.current entry.before.before.rows2.result (direct_of a.f.source2) (sym some.ensures ∙ not-false _ entry.if1.false)))
 
 pub direct-unwritten2-spec : {M : Type 1} → statement M
 direct-unwritten2-spec =

@@ -4,7 +4,7 @@ use mathlib.Core.Bool.{◌||◌}
 use mathlib.Core.Path.{◌∙◌, sym}
 use borrow.Author.Tests.{not-true}
 use Rattle.laws.proofs.Every.{neither}
-use Rattle.layout.specs.Records.{direct_of_lem, register_of_lem}
+use Rattle.layout.specs.Records.{direct_of, register_of}
 use Rattle.layout.specs.computed.Sets.{named_set, selector_set1, selector_set2}
 use Rattle.components.specs.computed.QuickTests.{may_read_unwritten}
 use Rattle.components.specs.computed.ReadsWritten.{OrdinaryReads}
@@ -27,11 +27,11 @@ returns c =
     let first = c.before.before.lacks-some in
     let second = c.before.lacks-some2 in
     let (l, r) = neither first.result second.result (not-true (first.result || second.result) c.if1.true) in
-    let mask = (register_of_lem a.f.destination).mask in
+    let mask = (register_of a.f.destination).mask in
     with_meaning (λ r. OrdinaryReads r a.current a.f) _ (may_read_unwritten a.current a.f) (
     simp (
-      sym (none_missing a.current 1 (λ z. named_set z (selector_set1 a.f.opcode mask 0)) (direct_of_lem a.f.source1) (sym first.ensures ∙ l)),
-      sym (none_missing a.current 1 (λ z. named_set z (selector_set2 a.f.opcode mask)) (direct_of_lem a.f.source2) (sym second.ensures ∙ r)),
+      sym (none_missing a.current 1 (λ z. named_set z (selector_set1 a.f.opcode mask 0)) (direct_of a.f.source1) (sym first.ensures ∙ l)),
+      sym (none_missing a.current 1 (λ z. named_set z (selector_set2 a.f.opcode mask)) (direct_of a.f.source2) (sym second.ensures ∙ r)),
     )
     ) (ordinary_reads a.current a.f)
 

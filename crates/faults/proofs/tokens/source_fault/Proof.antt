@@ -3,7 +3,7 @@
 use Prim.Native.Nat.{ℕ}
 use mathlib.Core.Bool.{Bool, false}
 use mathlib.Core.Path.{◌≡◌, refl, ◌∙◌, ap, ap₂, sym}
-use Rattle.layout.specs.Records.{is_indexed, direct_of_lem, source_of}
+use Rattle.layout.specs.Records.{is_indexed, direct_of, source_of}
 use Rattle.layout.specs.declared.record.DirectSource.{DirectSource}
 use Rattle.layout.proofs.SourceKinds.{indexed_source, direct_source}
 use Rattle.faults.specs.Rules.{indexed_wrong, direct_wrong}
@@ -49,7 +49,7 @@ direct-wrong-requires : tie.Need-direct-wrong-requires
 direct-wrong-requires c κs = search rules
 
 -- by what the two rules of a direct source answer
-direct-fault : (p : Profile) (second : Bool) (opcode rows field : ℕ) (s : DirectSource) {x y : Bool} → s ≡ direct_of_lem field → is_indexed field ≡ false
+direct-fault : (p : Profile) (second : Bool) (opcode rows field : ℕ) (s : DirectSource) {x y : Bool} → s ≡ direct_of field → is_indexed field ≡ false
     → x ≡ direct_wrong (count_in p) p.stage rows s → y ≡ swizzle_wrong second opcode s.swizzle
     → number_of (two_faults x 17 y 18) ≡ number_of (first_fault (source_rules (count_in p) p.stage rows (swizzle_wrong second opcode) 0 (source_of field)))
 direct-fault p second opcode rows field s e direct x y =
