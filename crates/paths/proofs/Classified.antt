@@ -52,7 +52,7 @@ sized eif n (b ∷ bs) (k ∷ ks) s w e h = omega arith
 
 -- ---- lacking
 
-lacks_on : (s : ComponentSet) {xs : List ℕ} {c : ℕ} → Memᴰ c xs → s c ≡ false → lacks s xs ≡ true
+lacks_on : (s : ComponentSet) {c : ℕ} {xs : List ℕ} → Memᴰ c xs → s c ≡ false → lacks s xs ≡ true
 lacks_on s (Memᴰ.head p) e = rw (ap s (sym p) ∙ e)
 lacks_on s (Memᴰ.tail {x = x} m) e = rw (lacks_on s m e) (or-true (not (s x)))
 

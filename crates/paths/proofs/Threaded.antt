@@ -24,7 +24,7 @@ ReadsFrom written s n (v ∷ later) =
 
 -- ---- a list and its set
 
-pub has_member : {xs : List ℕ} {c : ℕ} → Memᴰ c xs → has xs c ≡ true
+pub has_member : {c : ℕ} {xs : List ℕ} → Memᴰ c xs → has xs c ≡ true
 has_member {c = c} (Memᴰ.head {xs = xs} p) = ap (λ k. eqb k c || has xs c) (sym p) ∙ rw (is_true (eqb c c) (eqb_refl c))
 has_member {c = c} (Memᴰ.tail {x = x} m) = rw (has_member m) (or-true (eqb x c))
 
