@@ -1,24 +1,26 @@
 // Reads an edition digit and a program's bytes from standard input, and prints the listing or the refusal.
 #![tactic(auto)]
 
-use libc::STDOUT_FILENO;
 use listing::answers::Printed;
+use std::io;
+use std::io::{Read, Write};
 
-fn main() {
+fn main(rt: HostRuntime) -> io::Result<()> {
+    let alloc = rt.alloc();
     // One byte more than the limit, so that a longer input is known as such.
-    let mut input = [0u8; 49161];
-    let n = io::read_full(0, &mut input);
+    let mut input = Vec::new(alloc);
+    rt.reader().take(49161).read_to_end(&mut input)?;
     // The longest text that there is fits.
-    let mut text = [0u8; 262178];
-    match report::report(&input[..n], &mut text) {
-        Printed::Length(length) => write(&text, length),
-        Printed::Refused(_) => {}
+    let mut text = vec![in alloc; 0u8; 262178]?;
+    match report::report(&input, &mut text) {
+        Printed::Length(length) => write(&mut io::writer(&rt), &text, length),
+        Printed::Refused(_) => Ok(()),
     }
 }
 
-fn write(text: &[u8], length: usize) {
+fn write<W: Write>(out: &mut W, text: &[u8], length: usize) -> io::Result<()> {
     if text.len() < length {
-        return;
+        return Ok(());
     }
-    io::write_all(STDOUT_FILENO, &text[..length]);
+    out.write_all(&text[..length])
 }

@@ -7,47 +7,51 @@ mod reading;
 
 use bytecode::answers::Decoded;
 use reader::answers::Opening;
+use std::io;
+use std::io::{BufWriter, Read, Write};
 
-fn main() {
+fn main(rt: HostRuntime) -> io::Result<()> {
+    let alloc = rt.alloc();
     // One byte more than the limit, so that a longer input is known as such.
-    let mut input = [0u8; 49161];
-    let n = io::read_full(0, &mut input);
-    if 49160 < n {
-        print::text(b"input too long\n");
-        return;
+    let mut input = Vec::new(alloc);
+    rt.reader().take(49161).read_to_end(&mut input)?;
+    let mut out = BufWriter::new(alloc, io::writer(&rt))?;
+    answer(&mut out, &input)?;
+    out.flush()
+}
+
+fn answer<W: Write>(out: &mut W, input: &[u8]) -> io::Result<()> {
+    if 49160 < input.len() {
+        return print::text(out, b"input too long\n");
     }
-    if n == 0 {
-        print::text(b"no edition\n");
-        return;
+    if input.len() == 0 {
+        return print::text(out, b"no edition\n");
     }
-    read_all(&input[1..n]);
+    read_all(out, &input[1..])
 }
 
 // Two reads more than there are tokens: the end stays the end.
-fn read_all(program: &[u8]) {
-    opened(reading::open(program));
-    let reads = program.len() / 24 + 2;
+fn read_all<W: Write>(out: &mut W, program: &[u8]) -> io::Result<()> {
+    opened(out, reading::open(program))?;
     let mut place = 0;
-    let mut i = 0;
-    while i < reads {
+    for _ in 0..program.len() / 24 + 2 {
         let step = reading::read(program, place);
-        let answer = step.answer;
-        read(place, answer);
+        read(out, place, step.answer)?;
         place = step.place;
-        i += 1;
+    }
+    Ok(())
+}
+
+fn opened<W: Write>(out: &mut W, answer: Opening) -> io::Result<()> {
+    match answer {
+        Opening::Ready => print::text(out, b"open\n"),
+        Opening::Refused(r) => print::refusal(out, r),
     }
 }
 
-fn opened(answer: Opening) {
+fn read<W: Write>(out: &mut W, place: usize, answer: Decoded) -> io::Result<()> {
     match answer {
-        Opening::Ready => print::text(b"open\n"),
-        Opening::Refused(r) => print::refusal(r),
-    }
-}
-
-fn read(place: usize, answer: Decoded) {
-    match answer {
-        Decoded::Token(t) => print::token(place, t.opcode),
-        Decoded::Refused(r) => print::refusal(r),
+        Decoded::Token(t) => print::token(out, place, t.opcode),
+        Decoded::Refused(r) => print::refusal(out, r),
     }
 }

@@ -20,7 +20,8 @@ pub fn open(program: &[u8]) -> Opening
 }
 
 pub fn read(program: &[u8], place: usize) -> Step
-    ensures { ReadsAt program.now place result.answer × (result.place ≡ place_after program.now place) }
+    ensures answer { ReadsAt program.now place result.answer }
+    ensures place { result.place ≡ place_after program.now place }
 {
     let read = reader::read(TokenReader { program, place });
     Step {

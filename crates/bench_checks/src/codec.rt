@@ -3,123 +3,132 @@ use crate::print;
 use crate::print::Form;
 use bytecode::answers::{Decoded, Encoded};
 use layout::record::{Destination, Operand, Sampler, Token};
+use std::io;
+use std::io::Write;
 
 // Decodes bytes and prints the record, and whether it encodes to the same bytes.
-pub fn decoded(bytes: &[u8]) {
+pub fn decoded<W: Write>(out: &mut W, bytes: &[u8]) -> io::Result<()> {
     match bytecode::decode(bytes) {
-        Decoded::Refused(r) => print::refusal(r),
+        Decoded::Refused(r) => print::refusal(out, r),
         Decoded::Token(t) => {
-            record(t);
-            again(t, bytes);
+            record(out, t)?;
+            again(out, t, bytes)
         }
     }
 }
 
-fn record(t: Token) {
-    print::text(b"opcode");
-    print::number(t.opcode as u64);
-    let d = t.destination;
-    destination(d);
-    let a = t.source1;
-    operand(a);
-    let b = t.source2;
-    operand(b);
+fn record<W: Write>(out: &mut W, t: Token) -> io::Result<()> {
+    print::text(out, b"opcode")?;
+    print::number(out, t.opcode as u64)?;
+    destination(out, t.destination)?;
+    operand(out, t.source1)?;
+    operand(out, t.source2)
 }
 
-fn destination(d: Destination) {
+fn destination<W: Write>(out: &mut W, d: Destination) -> io::Result<()> {
     match d {
-        Destination::Unused => print::text(b"; unused"),
+        Destination::Unused => print::text(out, b"; unused"),
         Destination::Masked(r) => {
-            print::text(b"; to");
-            print::number(r.number as u64);
-            print::number(r.mask as u64);
-            print::number(r.kind as u64);
+            print::text(out, b"; to")?;
+            print::number(out, r.number as u64)?;
+            print::number(out, r.mask as u64)?;
+            print::number(out, r.kind as u64)
         }
     }
 }
 
-fn operand(o: Operand) {
+fn operand<W: Write>(out: &mut W, o: Operand) -> io::Result<()> {
     match o {
-        Operand::Unused => print::text(b"; unused"),
+        Operand::Unused => print::text(out, b"; unused"),
         Operand::Direct(s) => {
-            print::text(b"; direct");
+            print::text(out, b"; direct")?;
             source(
+                out,
                 s.number,
                 s.offset,
                 s.swizzle,
                 s.kind,
                 s.index_kind,
                 s.component,
-            );
+            )
         }
         Operand::Indexed(s) => {
-            print::text(b"; indexed");
+            print::text(out, b"; indexed")?;
             source(
+                out,
                 s.number,
                 s.offset,
                 s.swizzle,
                 s.kind,
                 s.index_kind,
                 s.component,
-            );
+            )
         }
-        Operand::Sampler(s) => sampler(s),
+        Operand::Sampler(s) => sampler(out, s),
     }
 }
 
-fn source(number: u16, offset: u8, swizzle: u8, kind: u8, index_kind: u8, component: u8) {
-    print::number(number as u64);
-    print::number(offset as u64);
-    print::number(swizzle as u64);
-    print::number(kind as u64);
-    print::number(index_kind as u64);
-    print::number(component as u64);
+fn source<W: Write>(
+    out: &mut W,
+    number: u16,
+    offset: u8,
+    swizzle: u8,
+    kind: u8,
+    index_kind: u8,
+    component: u8,
+) -> io::Result<()> {
+    print::number(out, number as u64)?;
+    print::number(out, offset as u64)?;
+    print::number(out, swizzle as u64)?;
+    print::number(out, kind as u64)?;
+    print::number(out, index_kind as u64)?;
+    print::number(out, component as u64)
 }
 
-fn sampler(s: Sampler) {
-    print::text(b"; sampler");
-    print::number(s.number as u64);
-    print::number(s.kind as u64);
-    print::number(s.dimension as u64);
-    print::number(s.special as u64);
-    print::number(s.wrap as u64);
-    print::number(s.mipmap as u64);
-    print::number(s.filter as u64);
-    bias(s);
+fn sampler<W: Write>(out: &mut W, s: Sampler) -> io::Result<()> {
+    print::text(out, b"; sampler")?;
+    print::number(out, s.number as u64)?;
+    print::number(out, s.kind as u64)?;
+    print::number(out, s.dimension as u64)?;
+    print::number(out, s.special as u64)?;
+    print::number(out, s.wrap as u64)?;
+    print::number(out, s.mipmap as u64)?;
+    print::number(out, s.filter as u64)?;
+    bias(out, s)
 }
 
 // The float by its bits, so that no two floats print alike.
-fn bias(s: Sampler) {
+fn bias<W: Write>(out: &mut W, s: Sampler) -> io::Result<()> {
     let eighth = bytecode::bias(s);
-    print::text(b" bias ");
-    print::word(f32::to_bits(eighth));
+    print::text(out, b" bias ")?;
+    print::word(out, f32::to_bits(eighth))
 }
 
 // Encodes a record and compares the bytes with those it was decoded from.
-fn again(t: Token, bytes: &[u8]) {
-    let mut out = [170u8; 24];
-    match bytecode::encode(t, &mut out) {
-        Encoded::Refused(r) => print::refusal(r),
+fn again<W: Write>(out: &mut W, t: Token, bytes: &[u8]) -> io::Result<()> {
+    let mut token = [170u8; 24];
+    match bytecode::encode(t, &mut token) {
+        Encoded::Refused(r) => print::refusal(out, r),
         Encoded::Written => {
-            if check::same(&out, bytes) {
-                print::text(b"; the same bytes");
+            if token.as_slice() == bytes {
+                print::text(out, b"; the same bytes")?;
             }
-            print::end_line();
+            print::end_line(out)
         }
     }
 }
 
 // Encodes a record into a buffer of some length, 40 at most, filled with AA, and prints the buffer.
-pub fn encoded(room: u8, t: Token) {
-    let mut out = [170u8; 40];
+pub fn encoded<W: Write>(out: &mut W, room: u8, t: Token) -> io::Result<()> {
+    let mut buffer = [170u8; 40];
     let n = room as usize % 41;
-    encoded_into(t, &mut out[..n]);
+    encoded_into(out, t, &mut buffer[..n])
 }
 
-fn encoded_into(t: Token, out: &mut [u8]) {
-    match bytecode::encode(t, out) {
-        Encoded::Refused(r) => print::refusal(r),
-        Encoded::Written => print::text(b"written\n"),
+fn encoded_into<W: Write>(out: &mut W, t: Token, buffer: &mut [u8]) -> io::Result<()> {
+    match bytecode::encode(t, buffer) {
+        Encoded::Refused(r) => print::refusal(out, r)?,
+        Encoded::Written => print::text(out, b"written\n")?,
     }
-    print::bytes(out, Form::Hexadecimal);
+    print::bytes(out, buffer, Form::Hexadecimal)
 }

@@ -10,8 +10,15 @@ mod lines;
 mod print;
 mod programs;
 
-fn main() {
-    let mut text = [0u8; 524288];
-    let n = io::read_full(0, &mut text);
-    cases::run(&text[..n]);
+use std::io;
+use std::io::{BufWriter, Read, Write};
+
+fn main(rt: HostRuntime) -> io::Result<()> {
+    let alloc = rt.alloc();
+    let mut text = Vec::new(alloc);
+    rt.reader().take(524288).read_to_end(&mut text)?;
+    let mut bytes = vec![in alloc; 0u8; 65536]?;
+    let mut out = BufWriter::new(alloc, io::writer(&rt))?;
+    cases::run(&mut out, &text, &mut bytes)?;
+    out.flush()
 }

@@ -1,32 +1,32 @@
 // Output, a piece at a time.
 use bytecode::answers::Refusal;
-use libc::STDOUT_FILENO;
+use std::io;
+use std::io::Write;
 
-pub fn text(bytes: &[u8]) {
-    io::write_all(STDOUT_FILENO, bytes);
+pub fn text<W: Write>(out: &mut W, bytes: &[u8]) -> io::Result<()> {
+    out.write_all(bytes)
 }
 
-pub fn end_line() {
-    text(b"\n");
+pub fn end_line<W: Write>(out: &mut W) -> io::Result<()> {
+    text(out, b"\n")
 }
 
-pub fn number(n: u64) {
-    text(b" ");
-    io::print_decimal(STDOUT_FILENO, n);
+pub fn number<W: Write>(out: &mut W, n: u64) -> io::Result<()> {
+    write!(out, " {n}")
 }
 
-pub fn word(n: u32) {
-    io::print_hex(STDOUT_FILENO, n as u64, 8);
+pub fn word<W: Write>(out: &mut W, n: u32) -> io::Result<()> {
+    write!(out, "{n:08x}")
 }
 
-pub fn refusal(r: Refusal) {
-    text(b"refused");
-    number(r.number as u64);
-    text(b" at");
-    number(r.token as u64);
-    text(b" part");
-    number(r.part as u64);
-    end_line();
+pub fn refusal<W: Write>(out: &mut W, r: Refusal) -> io::Result<()> {
+    text(out, b"refused")?;
+    number(out, r.number as u64)?;
+    text(out, b" at")?;
+    number(out, r.token as u64)?;
+    text(out, b" part")?;
+    number(out, r.part as u64)?;
+    end_line(out)
 }
 
 // How each byte of a line is printed.
@@ -38,20 +38,16 @@ pub enum Form {
 }
 
 // Bytes, one after the other, and the line's end.
-pub fn bytes(s: &[u8], form: Form) {
-    let mut i = 0;
-    while i < s.len() {
-        byte(s[i], form);
-        i += 1;
+pub fn bytes<W: Write>(out: &mut W, s: &[u8], form: Form) -> io::Result<()> {
+    for value in s {
+        byte(out, *value, form)?;
     }
-    end_line();
+    end_line(out)
 }
 
-fn byte(value: u8, form: Form) {
+fn byte<W: Write>(out: &mut W, value: u8, form: Form) -> io::Result<()> {
     match form {
-        Form::Hexadecimal => {
-            io::print_hex(STDOUT_FILENO, value as u64, 2);
-        }
-        Form::Components => number(layout::components(value) as u64),
+        Form::Hexadecimal => write!(out, "{value:02x}"),
+        Form::Components => number(out, layout::components(value) as u64),
     }
 }

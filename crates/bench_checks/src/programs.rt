@@ -2,42 +2,41 @@
 ghost use Rattle.std.specs.Prelude.{◌≤◌, length};
 
 use crate::{flat, print};
+use std::io;
+use std::io::Write;
 use verifier::answers::Checked;
 
 // An edition in four bytes, and a program.
-pub fn checked(bytes: &[u8]) {
+pub fn checked<W: Write>(out: &mut W, bytes: &[u8]) -> io::Result<()> {
     if bytes.len() < 4 {
-        print::text(b"no such case\n");
-        return;
+        return print::text(out, b"no such case\n");
     }
     let edition = layout::word(bytes[0], bytes[1], bytes[2], bytes[3]);
     match verifier::check(edition, &bytes[4..]) {
-        Checked::Refused(r) => print::refusal(r),
+        Checked::Refused(r) => print::refusal(out, r),
         Checked::Accepted(p) => {
-            print::text(b"accepted");
-            print::number(p.stage as u64);
-            print::number(p.tokens as u64);
-            print::end_line();
+            print::text(out, b"accepted")?;
+            print::number(out, p.stage as u64)?;
+            print::number(out, p.tokens as u64)?;
+            print::end_line(out)
         }
     }
 }
 
 // How often in two bytes, an edition and a program, whose last token is there that many times more: programs at the limits are long.
-pub fn repeated(bytes: &mut [u8], n: usize)
+pub fn repeated<W: Write>(out: &mut W, bytes: &mut [u8], n: usize) -> io::Result<()>
     requires { n ≤ length bytes.old }
 {
     if n < 30 {
-        print::text(b"no such case\n");
-        return;
+        return print::text(out, b"no such case\n");
     }
     let times = flat::half(bytes[0], bytes[1]) as usize;
     let end = n + times * 24;
     if bytes.len() < end {
-        print::text(b"no such case\n");
-        return;
+        return print::text(out, b"no such case\n");
     }
     repeat(bytes, n, end);
-    checked(&bytes[2..end]);
+    checked(out, &bytes[2..end])
 }
 
 fn repeat(bytes: &mut [u8], from: usize, end: usize)

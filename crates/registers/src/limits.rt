@@ -2,6 +2,7 @@
 ghost use Rattle.std.specs.Prelude.{◌≡◌};
 ghost use Rattle.registers.specs.Limits.{limit_of};
 
+#[tactic(auto, unfolding(crate::specs::Limits::limit_of))]
 pub fn token_limit(edition: u32) -> usize
     ensures { result ≡ limit_of edition }
 {
