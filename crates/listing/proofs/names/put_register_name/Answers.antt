@@ -5,5 +5,5 @@ use Rattle.listing.proofs.names.put_register_name.Goals as goal
 
 pub returns : goal.returns
 returns c =
-    rw (← register_name_lem c.args.stage c.args.kind c.requires.1.0 c.requires.1.1, ← c.row-from.ensures.0)
+    rw (← register_name_lem c.args.stage c.args.kind c.requires.stage_bound c.requires.kind_bound, ← c.row-from.ensures.0)
     (c.put_byte-p.ensures then c.put_when.ensures)
