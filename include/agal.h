@@ -1,8 +1,8 @@
 /*
  * A verified checker for AGAL shader bytecode: the C interface.
  *
- * The functions here are those of `libagal_c.a` (x86-64 Linux, System V calling convention; `rt staticlib agal_c` makes it). Each is
- * proved against a contract that gives its answer for all numbers and bytes; this file says the contracts in words.
+ * The functions here are those of `libagal_c.a` (x86-64 Linux, System V calling convention; `tools/build libagal_c.a` makes it). Each
+ * is proved against a contract that gives its answer for all numbers and bytes; this file says the contracts in words.
  *
  * What every function has in common
  *

@@ -9,7 +9,7 @@ fn main() {
     println!("cargo:rerun-if-changed={}", library.display());
     if !library.is_file() {
         eprintln!("agal: {} is missing.", library.display());
-        eprintln!("Run `rt staticlib agal_c` in the repository first; it proves the functions and writes the library.");
+        eprintln!("Run `tools/build libagal_c.a` in the repository first; it proves the functions and writes the library.");
         exit(1);
     }
     println!("cargo:rustc-link-search=native={}", folder.display());

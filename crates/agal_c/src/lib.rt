@@ -1,5 +1,5 @@
-// The C interface: the calls of the libraries on numbers and byte slices. A slice is a pointer and a length in C; `include/agal.h` declares
-// the functions, and says what a caller hands over.
+// The calls of the C interface: those of the libraries, on numbers and byte slices. The crate `agal_exports` hands them out to C, where a
+// slice is a pointer and a length; `include/agal.h` declares them, and says what a caller hands over.
 #![tactic(auto)]
 
 pub mod answers;
@@ -20,8 +20,7 @@ use layout::record::Sampler;
 use verifier::answers::Checked;
 
 // Judges a program under an edition: its stage and token count, or the first fault.
-#[unsafe(no_mangle)]
-pub extern "C" fn agal_check(edition: u32, program: &[u8]) -> Answer
+pub fn agal_check(edition: u32, program: &[u8]) -> Answer
     ensures { result ≡ check_answer (verdict edition program.now) }
 {
     match verifier::check(edition, program) {
@@ -31,8 +30,7 @@ pub extern "C" fn agal_check(edition: u32, program: &[u8]) -> Answer
 }
 
 // Decodes a token into its flat form, of 29 bytes. A fault of the token comes before 23.
-#[unsafe(no_mangle)]
-pub extern "C" fn agal_decode(token: &[u8], flat: &mut [u8]) -> Answer
+pub fn agal_decode(token: &[u8], flat: &mut [u8]) -> Answer
     ensures value { result ≡ delivery_answer 0 29 (decode_of token.now) flat.old }
     ensures flat_after { flat.new ≡ delivered (decode_of token.now) flat.old }
 {
@@ -44,8 +42,7 @@ pub extern "C" fn agal_decode(token: &[u8], flat: &mut [u8]) -> Answer
 }
 
 // The step of a reader that has read `place` tokens: the flat form of the next, and the place after it.
-#[unsafe(no_mangle)]
-pub extern "C" fn agal_read(program: &[u8], place: usize, flat: &mut [u8]) -> Answer
+pub fn agal_read(program: &[u8], place: usize, flat: &mut [u8]) -> Answer
     ensures value { result ≡ delivery_answer place 1 (read_of program.now place) flat.old }
     ensures flat_after { flat.new ≡ delivered (read_of program.now place) flat.old }
 {
@@ -58,8 +55,7 @@ pub extern "C" fn agal_read(program: &[u8], place: usize, flat: &mut [u8]) -> An
 }
 
 // Encodes a flat form into 24 bytes. What is no flat form is 25, as a record that is not encodable is.
-#[unsafe(no_mangle)]
-pub extern "C" fn agal_encode(flat: &[u8], out: &mut [u8]) -> Answer
+pub fn agal_encode(flat: &[u8], out: &mut [u8]) -> Answer
     ensures value { result ≡ encode_answer flat.now out.old }
     ensures out_after { out.new ≡ after_flat_encode flat.now out.old }
 {
@@ -70,8 +66,7 @@ pub extern "C" fn agal_encode(flat: &[u8], out: &mut [u8]) -> Answer
 }
 
 // The listing line of a flat form, and its length. Numbers that are no byte are no stage and no depth.
-#[unsafe(no_mangle)]
-pub extern "C" fn agal_line(flat: &[u8], stage: u32, depth: u32, out: &mut [u8]) -> Answer
+pub fn agal_line(flat: &[u8], stage: u32, depth: u32, out: &mut [u8]) -> Answer
     ensures value { result ≡ line_answer_of flat.now stage depth out.old }
     ensures out_after { out.new ≡ after_flat_line flat.now stage depth out.old }
 {
@@ -88,8 +83,7 @@ pub extern "C" fn agal_line(flat: &[u8], stage: u32, depth: u32, out: &mut [u8])
 }
 
 // The whole text that agallist prints for an edition digit and a program, and its length.
-#[unsafe(no_mangle)]
-pub extern "C" fn agal_report(input: &[u8], out: &mut [u8]) -> Answer
+pub fn agal_report(input: &[u8], out: &mut [u8]) -> Answer
     ensures value { result ≡ printed_answer (print_answer (text_of input.now) out.old) }
     ensures out_after { out.new ≡ after_print (text_of input.now) out.old }
 {
@@ -97,8 +91,7 @@ pub extern "C" fn agal_report(input: &[u8], out: &mut [u8]) -> Answer
 }
 
 // The bias of a sampler whose record has this signed byte, as a float. Nothing else of the sampler counts.
-#[unsafe(no_mangle)]
-pub extern "C" fn agal_bias(bias: i8) -> f32
+pub fn agal_bias(bias: i8) -> f32
     ensures { IsBias bias result }
 {
     bytecode::bias(Sampler {
