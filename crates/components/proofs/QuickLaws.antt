@@ -5,7 +5,7 @@ use mathlib.Core.Bool.{Bool, true, false, cond, true≢false}
 use mathlib.Core.Path.{◌≡◌, refl, sym, ap, ap₂, subst, fun_ext, ◌∙◌}
 use lib.Dec.{eqb, eqb→eq}
 use Rattle.laws.proofs.Every.{neither}
-use Rattle.layout.specs.Opcodes.{kil, tex, openers, is_matrix, is_opener, row_count2, holds, row_of, shape_of_row, shape_of}
+use Rattle.layout.specs.Opcodes.{tex, openers, is_matrix, is_opener, row_count2, holds, row_of, shape_of_row, shape_of}
 use Rattle.layout.specs.Records.{register_of, direct_of, is_indexed, indexed_of, sampler_of, source_of, operand_of, token_of}
 use Rattle.layout.specs.computed.Sets.{named_set, selector_set1, selector_set2, read_set2}
 use Rattle.layout.specs.declared.fields.Fields.{Fields}

@@ -10,7 +10,7 @@ use lib.ListN.{length}
 use borrow.Author.Tests.{lt-ltb, le-ltb}
 use Rattle.layout.specs.declared.opcodes.Flow as code
 use Rattle.layout.specs.declared.opcodes.Flow.TheVariants.{Plain, Opener, Els, Eif}
-use Rattle.paths.specs.Paths.{opener, els, eif}
+use Rattle.paths.specs.Paths.{els, eif}
 use Rattle.paths.specs.Nesting as nesting
 use Rattle.paths.specs.Nesting.{misplaced}
 use Rattle.paths.specs.computed.Sets.{ComponentSet}

@@ -1,7 +1,7 @@
 -- The next state of the code stands for the next state of the check over paths.
 -- Assumes nothing.
 use Prim.Native.Nat.{ℕ, zero, suc, ◌+◌, ◌%◌, ◌<◌}
-use mathlib.Core.Bool.{true, false, not, ◌||◌, or-false, true≢false}
+use mathlib.Core.Bool.{false, not, ◌||◌, or-false, true≢false}
 use mathlib.Core.List.{◌∷◌}
 use mathlib.Core.Path.{◌≡◌, refl, ◌∙◌, sym, ap, ap₂, fun_ext}
 use native.Mathlib.Omega.{arith}

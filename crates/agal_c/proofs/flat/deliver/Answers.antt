@@ -1,11 +1,7 @@
 -- The goals of `deliver` that the check leaves.
-use mathlib.Core.Bool.{true}
-use mathlib.Core.Path.{◌≡◌, ◌∙◌, sym, ap}
+use mathlib.Core.Path.{◌∙◌, sym, ap}
 use borrow.Author.Tests.{not-true, not-false}
-use Rattle.layout.specs.Records.{token_of}
-use Rattle.bytecode.specs.Decode.{decode_of}
-use Rattle.bytecode.specs.computed.CleanFields.{is_clean}
-use Rattle.bytecode.specs.declared.answers.Decoded.TheVariants.{Token as Read, Refused as NotRead}
+use Rattle.bytecode.specs.declared.answers.Decoded.TheVariants.{Refused as NotRead}
 use Rattle.agal_c.proofs.CallLaws.{faulty, fine, not_read, no_room, room}
 use mathlib.Core.Bool.{not}
 use Rattle.agal_c.proofs.flat.deliver.Goals as goal

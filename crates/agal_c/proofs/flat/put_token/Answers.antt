@@ -5,7 +5,6 @@ use mathlib.Core.Path.{◌≡◌, ◌∙◌, ap}
 use native.Mathlib.Omega.{arith}
 use lib.ListN.{length, drop}
 use lib.Seq.{sets-eq}
-use borrow.Author.Rules.{rules}
 use Rattle.layout.specs.Layout.{word_bytes}
 use Rattle.layout.specs.Records.{token_of}
 use Rattle.bytecode.proofs.DecodeLaws.{clean_by}

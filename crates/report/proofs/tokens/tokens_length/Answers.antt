@@ -1,5 +1,4 @@
 -- The goals of `tokens_length` that the check leaves.
-use Prim.Native.Nat.{◌-◌}
 use native.Mathlib.Omega.{arith}
 use Rattle.report.proofs.Turn.{nameable, low, walks}
 use Rattle.report.proofs.tokens.tokens_length.Goals as goal

@@ -1,5 +1,4 @@
 -- The goals of `last_state` that the check leaves.
-use Prim.Native.Nat.{◌-◌}
 use mathlib.Core.Path.{◌∙◌, sym, ap}
 use Rattle.layout.specs.declared.opcodes.Flow.TheVariants.{Opener, Els, Eif}
 use Rattle.verifier.proofs.TurnLaw.{after_step, after_branch, refused_at}
