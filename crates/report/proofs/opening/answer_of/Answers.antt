@@ -1,0 +1,13 @@
+-- The goals of `answer_of` that the check leaves.
+use borrow.Author.Rules.{rules}
+use mathlib.Core.Path.{◌∙◌, sym}
+use Rattle.report.proofs.Whole.{tokens_few, accepted_opens}
+use Rattle.report.proofs.opening.answer_of.Goals as goal
+
+pub overflow_cast-heading : goal.overflow_cast-heading
+overflow_cast-heading c =
+    search (rules, tokens_few c.args.edition c.args.bytes.now c.requires _ (sym c.check.ensures.answer ∙ c.in-Accepted.is))
+
+pub returns-in-Accepted : goal.returns-in-Accepted
+returns-in-Accepted c =
+    accepted_opens c.args.edition c.args.bytes.now c.requires _ (sym c.check.ensures.answer ∙ c.in-Accepted.is)
