@@ -18,8 +18,8 @@ use Rattle.components.specs.computed.QuickTests.{kil_may_read_unwritten}
 use Rattle.components.proofs.QuickLaws.{kil_reads}
 use Rattle.faults.specs.computed.Profile.{profile_of}
 use Rattle.faults.specs.computed.Faults.{swizzle_wrong}
-use Rattle.faults.specs.computed.LawfulTests.{is_lawful_source, repeats_first, is_stage_of_kil, is_lawful_kil}
-use Rattle.faults.proofs.LawfulOpcodes.{no_edition, in_fragment}
+use Rattle.faults.specs.computed.LawfulTests.{is_lawful_source, repeats_first, is_lawful_kil}
+use Rattle.faults.proofs.LawfulOpcodes.{no_edition, is_fragment, in_fragment}
 use Rattle.faults.proofs.LawfulOperands.{is_direct, lawful_direct, no_destination, no_source}
 use Rattle.faults.proofs.LawfulToken.{ToldLawful, together}
 use Rattle.faults.proofs.UsableCounts.{usable_in}
@@ -37,7 +37,7 @@ module _ (edition stage : ℕ) (f : Fields) where
   LawfulKil = ToldLawful edition stage false false (λ s. kil_may_read_unwritten s f ≡ false) f
 
   abbrev fragment : Bool
-  fragment = is_stage_of_kil (profile_of edition stage)
+  fragment = is_fragment stage
 
   abbrev bare : Bool
   bare = eqb f.destination 0

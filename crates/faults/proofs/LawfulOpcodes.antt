@@ -1,7 +1,7 @@
 -- Ordinary opcodes and matrices: which rules they have nothing to do with.
 -- Assumes nothing.
 use Prim.Native.Nat.{ℕ, ◌≤◌}
-use mathlib.Core.Bool.{true, false, not, ◌&&◌, ◌||◌, and-false, or-true}
+use mathlib.Core.Bool.{Bool, true, false, not, ◌&&◌, ◌||◌, and-false, or-true}
 use mathlib.Core.List.{[], ◌∷◌}
 use mathlib.Core.Path.{◌≡◌, refl, ◌∙◌, ap, sym, subst}
 use native.Mathlib.Omega.{arith}
@@ -27,6 +27,10 @@ pub record LawfulOpcode (edition stage o : ℕ) : Type 0 where
   pub rows : 1 ≤ row_count2 o
   pub swizzle1 : (z : ℕ) → swizzle_wrong false o z ≡ false
   pub swizzle2 : (z : ℕ) → (eqb (row_count2 o) 1 || eqb z 0xe4) ≡ true → swizzle_wrong true o z ≡ false
+
+-- the stage that has every opcode, kil among them
+abbrev pub is_fragment : ℕ → Bool
+is_fragment stage = eqb stage 1
 
 module _ (edition stage o : ℕ) where
   -- 10 says nothing of opcodes that edition 1 has

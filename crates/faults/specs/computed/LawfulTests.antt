@@ -95,15 +95,11 @@ is_lawful_tex p u f =
 abbrev pub repeats_first : ℕ → Bool
 repeats_first swizzle = eqb (swizzle % 4 * 0x55) swizzle
 
--- fragment programs have kil
-abbrev pub is_stage_of_kil : Profile → Bool
-is_stage_of_kil p = eqb p.stage 1
-
 -- with such a direct source, and nothing else
 unfoldable pub is_lawful_kil : Profile → Usable → Fields → Bool
 is_lawful_kil p u f =
     cond (eqb f.opcode kil)
-    (is_stage_of_kil p && eqb f.destination 0 && eqb f.source2 0
+    (eqb p.stage 1 && eqb f.destination 0 && eqb f.source2 0
     && is_lawful_source u.readable true 1 f.source1
     && repeats_first (value_of layout.swizzle f.source1))
     false
