@@ -10,7 +10,7 @@ use borrow.Author.Tests.{eqb-true, eqb-false, eq-eqb, ne_eqb}
 use Rattle.laws.specs.computed.Tests.{every}
 use Rattle.laws.proofs.Every.{below, is_true, same→eq}
 use Rattle.layout.specs.Swizzles.{bit_of}
-use Rattle.layout.proofs.MaskBits.{bit_of_bit_and}
+use Rattle.layout.proofs.MaskBits.{bit_of-bit_and}
 
 -- equal numbers on one side, equal numbers on the other
 pub eqb_iff : (a b c d : ℕ) → (a ≡ b → c ≡ d) → (c ≡ d → a ≡ b) → eqb a b ≡ eqb c d
@@ -24,7 +24,7 @@ eqb_iff a b c d f g = go (eqb c d) refl
 
 -- the lowest four bits of a number
 pub bit_low : (m c : ℕ) → c < 4 → bit_of (m % 16) c ≡ bit_of m c
-bit_low m c h = rw (← and_mask m 4, bit_of_bit_and m 15 c, is_true (bit_of 15 c) (below (bit_of 15) 4 tt c h)) (and-true (bit_of m c))
+bit_low m c h = rw (← and_mask m 4, bit_of-bit_and m 15 c, is_true (bit_of 15 c) (below (bit_of 15) 4 tt c h)) (and-true (bit_of m c))
 
 low_and : (m h : ℕ) → bit_and (m % 16) h ≡ bit_and (m % 16) (h % 16)
 low_and m h =

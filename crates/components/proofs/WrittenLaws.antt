@@ -16,7 +16,7 @@ use Rattle.layout.specs.Swizzles.{bit_of, mask_components}
 use Rattle.components.specs.Reads.{register_components, writes_into, temporaries}
 use Rattle.components.specs.computed.Written.{half_of, component_set, join_of, marked_half, mark_of}
 use Rattle.components.specs.declared.written.Written.{Written}
-use Rattle.layout.proofs.MaskBits.{bit_of_bit_and, bit_of_bit_or}
+use Rattle.layout.proofs.MaskBits.{bit_of-bit_and, bit_of-bit_or}
 use Rattle.components.proofs.Bits.{eqb_iff, bit_low, bit_placed}
 use Rattle.components.proofs.Numbers.{numbers, temporaries_numbers, temporaries_other, has_keep, number_eqb}
 
@@ -33,7 +33,7 @@ halves_join a b r = go (ltb r 16) (ltb r 32)
     go false false = refl
 
 pub in_join : (a b : Written) (n : ℕ) → component_set (join_of a b) n ≡ (component_set a n && component_set b n)
-in_join a b n = rw (halves_join a b (n / 4)) (bit_of_bit_and (half_of a (n / 4)) (half_of b (n / 4)) (n % 64))
+in_join a b n = rw (halves_join a b (n / 4)) (bit_of-bit_and (half_of a (n / 4)) (half_of b (n / 4)) (n % 64))
 
 -- ---- mark
 
@@ -79,7 +79,7 @@ has_mask r m n =
 bit_marked : (g r m k : ℕ) → k < 64 → bit_of (marked_half g r m) k ≡ (bit_of g k || (eqb (r % 16) (k / 4) && bit_of m (k % 4)))
 bit_marked g r m k h =
     rw (
-      bit_of_bit_or g (m % 16 * 2 ^ (r % 16 * 4)) k,
+      bit_of-bit_or g (m % 16 * 2 ^ (r % 16 * 4)) k,
       bit_placed (m % 16) (r % 16) k (omega arith) (omega arith) h,
       bit_low m (k % 4) (omega arith),
     )

@@ -22,10 +22,10 @@ or_one (suc zero) (suc zero) ha hb = refl
 or_one (suc zero) (suc (suc b)) ha hb = absurd (omega arith)
 or_one (suc (suc a)) b ha hb = absurd (omega arith)
 
-pub bit_of_bit_and : (a b k : ℕ) → bit_of (bit_and a b) k ≡ (bit_of a k && bit_of b k)
-bit_of_bit_and a b k =
+pub bit_of-bit_and : (a b k : ℕ) → bit_of (bit_and a b) k ≡ (bit_of a k && bit_of b k)
+bit_of-bit_and a b k =
     rw (and_shr a b k, and_mod (a / 2 ^ k) (b / 2 ^ k) 1) (and_one (a / 2 ^ k % 2) (b / 2 ^ k % 2) (omega arith) (omega arith))
 
-pub bit_of_bit_or : (a b k : ℕ) → bit_of (bit_or a b) k ≡ (bit_of a k || bit_of b k)
-bit_of_bit_or a b k =
+pub bit_of-bit_or : (a b k : ℕ) → bit_of (bit_or a b) k ≡ (bit_of a k || bit_of b k)
+bit_of-bit_or a b k =
     rw (or_shr a b k, or_mod (a / 2 ^ k) (b / 2 ^ k) 1) (or_one (a / 2 ^ k % 2) (b / 2 ^ k % 2) (omega arith) (omega arith))

@@ -14,7 +14,7 @@ use Rattle.layout.specs.Opcodes.{is_in, m33, m44, m34, kil, tex}
 use Rattle.layout.specs.Swizzles.{keep, those, first_few, bit_of, mask_components, selector, xyzw as e4, named, selectors_agree, components_of}
 use Rattle.layout.specs.Selections.{by_three1, by_three2, by_four1, by_four2, selectors1, selectors2, components2}
 use Rattle.layout.specs.computed.Sets.{chosen_set, named_set, selector_set1, selector_set2, read_set2}
-use Rattle.layout.proofs.MaskBits.{bit_of_bit_or}
+use Rattle.layout.proofs.MaskBits.{bit_of-bit_or}
 
 -- ---- the components that a swizzle names
 
@@ -57,9 +57,9 @@ named_bit z s c h =
       in_keep,
       div-one s,
       div-one z,
-      bit_of_bit_or (bit_or x y) (bit_or u w) c,
-      bit_of_bit_or x y c,
-      bit_of_bit_or u w c,
+      bit_of-bit_or (bit_or x y) (bit_or u w) c,
+      bit_of-bit_or x y c,
+      bit_of-bit_or u w c,
       chosen_bit (s % 2) (z % 4) c (omega arith) (omega arith) h,
       chosen_bit (s / 2 % 2) (z / 4 % 4) c (omega arith) (omega arith) h,
       chosen_bit (s / 4 % 2) (z / 16 % 4) c (omega arith) (omega arith) h,

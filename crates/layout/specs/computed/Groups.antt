@@ -9,8 +9,8 @@ use Rattle.layout.specs.declared.opcodes.OperandShape.TheVariants.{Unused, Sourc
 abbrev pub is_branch : ℕ → Bool
 is_branch o = is_in o (openers ++ bare_opcodes)
 
--- The ordinary opcodes, all but those of branches, matrices and those that only fragment programs have: each has a destination and one or two
--- sources of one register, in every stage, and no rule says anything of it by name but 10 and 15.
+-- The ordinary opcodes, all but those of branches, matrices, kil and tex: each has a destination and one or two sources of one register, in
+-- every stage, and no rule says anything of it by name but 10 and 15.
 abbrev pub is_ordinary : ℕ → Bool
 is_ordinary o = is_listed o && not (is_matrix o) && not (is_branch o) && not (is_fragment_only o)
 
