@@ -93,7 +93,7 @@ module _ (n o s t i q d : ℕ) (e : source_fits n o s t i q ≡ true) (hd : d < 
   source_clean = rw (packed n o s t i q d) (none_stray source_rows (n ∷ o ∷ s ∷ t ∷ i ∷ q ∷ d ∷ []) rising fit)
 
   pub source_placed : SourceHigh t i q d
-  source_placed = record { kind = fit.1.1.1.0; index_kind_lem = fit.1.1.1.1.0; component = fit.1.1.1.1.1.0; indirect = hd }
+  source_placed = record { kind = fit.1.1.1.0; index_kind = fit.1.1.1.1.0; component = fit.1.1.1.1.1.0; indirect = hd }
 
   pub source_small : source_field n o s t i q d < 2 ^ 64
   unfolding source_field

@@ -50,7 +50,7 @@ refused_unwritten edition bytes r n part c e =
       shallow = l;
       path = p;
       source = s;
-      walks = subst (ReadsUnwritten s n) (cut.cut_walks_lem t f p) x;
+      walks = subst (ReadsUnwritten s n) (cut.cut_walks t f p) x;
       visits = subst (ReadsUnwritten s n) (cut.visits_what_is_there p) x;
     }
 

@@ -81,5 +81,5 @@ pub adequate_cut : (prog : List PathToken) (n : ℕ) → AdequateCut prog n
 adequate_cut prog n = record {
   visits_what_is_there = λ p. there_from p prog (suc n) 0 0 n (omega arith);
   cut_is_tree = λ m. is_tree (take (suc n) prog) (misplaced_cut prog [] 0 n m);
-  cut_walks_lem = walked (take (suc n) prog);
+  cut_walks = walked (take (suc n) prog);
 }

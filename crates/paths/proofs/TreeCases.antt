@@ -78,4 +78,4 @@ visits_there p = (adequate_cut stray 1).visits_what_is_there p
 
 -- and that is the walk over the tree
 walks_there : (p : Path) → visited p (bare opener ∷ bare eif ∷ []) ≡ cut_walk p 0 (whole (branch (bare opener) empty (bare eif) empty))
-walks_there p = (adequate_cut stray 1).cut_walks_lem (whole (branch (bare opener) empty (bare eif) empty)) ((refl, tt, refl, tt), refl) p
+walks_there p = (adequate_cut stray 1).cut_walks (whole (branch (bare opener) empty (bare eif) empty)) ((refl, tt, refl, tt), refl) p

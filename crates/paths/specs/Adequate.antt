@@ -38,4 +38,4 @@ visits_up_to n (v ∷ later) = cond (leb v.number n) (v ∷ visits_up_to n later
 pub record AdequateCut (prog : List PathToken) (n : ℕ) : Type 0 where
   pub visits_what_is_there : (p : Path) → visited p (take (suc n) prog) ≡ visits_up_to n (visited p prog)
   pub cut_is_tree : ((j : ℕ) → j ≤ n → misplaced_at prog j ≡ false) → IsTree (take (suc n) prog)
-  pub cut_walks_lem : (t : Cut) → TreeOf (take (suc n) prog) t → (p : Path) → visited p (take (suc n) prog) ≡ cut_walk p 0 t
+  pub cut_walks : (t : Cut) → TreeOf (take (suc n) prog) t → (p : Path) → visited p (take (suc n) prog) ≡ cut_walk p 0 t

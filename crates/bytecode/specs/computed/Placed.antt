@@ -14,7 +14,7 @@ DestinationPlaced (Masked r) = (r.mask < 16) × (r.kind < 16)
 -- the values of a source from bit 32 on
 pub record SourceHigh (t i q d : ℕ) : Type 0 where
   pub kind : t < 16
-  pub index_kind_lem : i < 16
+  pub index_kind : i < 16
   pub component : q < 4
   pub indirect : d < 2
 
