@@ -1,5 +1,5 @@
 -- Document 01: the faults that decode gives, 24, then 9, 12, 13, and the record where there is none.
-use Rattle.std.specs.Prelude.{ℕ, Bool, not, cond, ◌&&◌, List, ◌≡◌, eqb, length}
+use Rattle.std.specs.Prelude.{ℕ, Bool, not, cond, ◌&&◌, List, ◌≡◌, eqb, length, Result, Ok, Err, ⊤}
 use Rattle.layout.specs.Opcodes.{shape_of}
 use Rattle.layout.specs.Layout.{destination_bits, operand_bits, is_stray}
 use Rattle.bytecode.specs.Fields.{fields_of}
@@ -18,6 +18,10 @@ refusal n t p = record { number = n; token = t; part = p }
 -- nothing is refused: all numbers are 0
 abbrev pub no_refusal : Refusal
 no_refusal = refusal 0 0 0
+
+-- what a function answers that only looks for a fault: the fault, if it is one
+abbrev pub outcome : Refusal → Result ⊤ Refusal
+outcome fault = cond (eqb fault.number 0) (Ok tt) (Err fault)
 
 -- 12: an unused field, one with no defined bit, is not 0
 abbrev pub unused_not_zero : ℕ → ℕ → Bool

@@ -1,5 +1,9 @@
-// The four fields of a token as numbers, and a number from its bytes.
+// The four fields of a token as numbers, with and without the shape of its opcode, and a number from its bytes.
 ghost use Rattle.std.specs.Prelude.{◌≡◌, ◌+◌, ◌*◌};
+ghost use Rattle.layout.specs.Opcodes.{shape_of};
+
+use crate::opcodes;
+use crate::opcodes::Shape;
 
 #[derive(Clone, Copy)]
 pub struct Fields {
@@ -7,6 +11,23 @@ pub struct Fields {
     pub destination: u64,
     pub source1: u64,
     pub source2: u64,
+}
+
+// A token whose record is not made yet: its fields, and what each of them holds.
+#[derive(Clone, Copy)]
+pub struct RawToken {
+    pub shape: Shape,
+    pub fields: Fields,
+}
+
+impl RawToken {
+    // The fields, with the shape of their opcode.
+    pub fn of(fields: Fields) -> RawToken
+        ensures { result ≡ record { shape = shape_of fields.opcode; fields = fields } }
+    {
+        let shape = opcodes::shape_of(fields.opcode);
+        RawToken { shape, fields }
+    }
 }
 
 // A number from its four bytes, the lowest first.
