@@ -2,8 +2,8 @@
 -- each set is told by its list alone, in a test over all 64 numbers that a set can hold.
 -- Assumes nothing.
 use Prim.Native.Nat.{ℕ, ◌≤◌}
-use mathlib.Core.Bool.{Bool, true, false, cond, not, ◌&&◌, beq}
-use mathlib.Core.List.{◌++◌}
+use mathlib.Core.Bool.{Bool, true, false, cond, not, ◌&&◌, ◌||◌, beq, false≢true}
+use mathlib.Core.List.{List, [], ◌∷◌, ◌++◌}
 use mathlib.Core.Path.{◌≡◌, refl, sym, ap, ap₂, ◌∙◌}
 use native.Mathlib.Decide.{dec_lt}
 use native.Mathlib.Omega.{arith}
@@ -11,14 +11,15 @@ use lib.Dec.{T, eqb, eqb→eq}
 use borrow.Author.Tests.{lt-ltb, le-ltb, ne_eqb, eqb-false}
 use Rattle.laws.specs.computed.Tests.{every}
 use Rattle.laws.proofs.Every.{below, both_left, both_right, neither, same→eq}
-use Rattle.layout.specs.Opcodes.{tex, m33, m44, m34, first_opcodes, added_opcodes, is_added, is_matrix, row_count2, unlisted, shape_of_row, shape_of}
+use Rattle.layout.specs.Opcodes.{is_in, kil, tex, m33, m44, m34, first_opcodes, added_opcodes, is_added, is_matrix, row_count2, unlisted, shape_of_row, shape_of}
 use Rattle.layout.specs.computed.Groups.{is_ordinary, is_ordinary_in, source_shape, second_shape}
-use Rattle.layout.specs.computed.Sets.{among_of, set_below, ordinary_set, named_set, selector_set2, read_set2}
+use Rattle.layout.specs.Selections.{by_three1, by_four1}
+use Rattle.layout.specs.computed.Sets.{among_of, set_below, ordinary_set, coordinate_set, named_set, selector_set1, selector_set2, read_set2}
 use Rattle.layout.specs.Swizzles.{bit_of}
 use Rattle.layout.specs.declared.opcodes.OperandShape.{OperandShape}
 use Rattle.layout.specs.declared.opcodes.OperandShape.TheVariants.{Unused, Source, Sampler}
 use Rattle.layout.specs.declared.opcodes.Shape.{Shape}
-use Rattle.layout.proofs.Listed.{not_in, past}
+use Rattle.layout.proofs.Listed.{all_below, not_in, past}
 
 -- ---- a set and a list
 
@@ -32,6 +33,35 @@ in_set set test t none o =
       | yes h ↦ rw (lt-ltb o 64 h) (same→eq (bit_of set o) (test o) (below (λ o. beq (bit_of set o) (test o)) 64 t o h))
       | no h ↦ let l : 64 ≤ o = omega (arith, h) in rw (le-ltb o 64 l) (sym (none o l))
     ]
+
+-- what the code was told of a set, it was told of the list
+pub told : (set o : ℕ) {r : Bool} → r ≡ among_of set o → (ks : List ℕ) → T (agree set (λ o. is_in o ks)) → T (all_below 64 ks) → r ≡ is_in o ks
+told set o e ks t b = e ∙ in_set set (λ o. is_in o ks) t (λ o h. not_in o 64 ks h b) o
+
+-- the same from the list's side, for a test that came out as b
+pub listed_as : (set o : ℕ) {r b : Bool} → r ≡ among_of set o → r ≡ b → (ks : List ℕ) → T (agree set (λ o. is_in o ks)) → T (all_below 64 ks)
+    → is_in o ks ≡ b
+listed_as set o e h ks t b = sym (told set o e ks t b) ∙ h
+
+-- ---- source 1 by the mask: in no list of source 1, neither kil nor tex
+
+abbrev by_no_mask : ℕ → Bool
+by_no_mask o = is_in o by_three1 || (is_in o by_four1 || is_in o (kil ∷ tex ∷ []))
+
+pub by_mask : (set o : ℕ) {r : Bool} (m d : ℕ) → r ≡ among_of set o → not r ≡ true → T (agree set by_no_mask) → selector_set1 o m d ≡ m
+unfolding selector_set1
+by_mask set o m d e h t = go (is_in o by_three1) (is_in o by_four1) (eqb o kil) (eqb o tex) (ap not (sym (e ∙ in_set set by_no_mask t none o)) ∙ h)
+  where
+    none : (o : ℕ) → 64 ≤ o → by_no_mask o ≡ false
+    none o l = rw (not_in o 64 by_three1 l tt, not_in o 64 by_four1 l tt, not_in o 64 (kil ∷ tex ∷ []) l tt)
+
+    go : (p q r t : Bool) → not (p || (q || (r || (t || false)))) ≡ true
+        → cond p 7 (cond q 15 (cond r 1 (cond t (coordinate_set d) m))) ≡ m
+    go true q r t e = absurd (false≢true e)
+    go false true r t e = absurd (false≢true e)
+    go false false true t e = absurd (false≢true e)
+    go false false false true e = absurd (false≢true e)
+    go false false false false e = refl
 
 -- ---- m33, m44 and m34 stand one after another
 

@@ -67,8 +67,10 @@ const WITH_SOURCE1: u64 = 0x3780_FFFF_FFFF;
 
 const WITH_SOURCE2: u64 = 0x3600_F38E_08DE;
 
-// ddx to eif.
+// ddx to eif, and ife to ifl.
 const ADDED: u64 = (1 << (EIF + 1)) - (1 << DDX);
+
+pub(crate) const OPENERS: u64 = (1 << (IFL + 1)) - (1 << IFE);
 
 const FRAGMENT_ONLY: u64 = 1 << KIL | 1 << TEX;
 

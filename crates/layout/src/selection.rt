@@ -4,8 +4,21 @@ ghost use Rattle.std.specs.Prelude.{◌≡◌};
 ghost use Rattle.layout.specs.Opcodes.{row_count2};
 ghost use Rattle.layout.specs.computed.Sets.{chosen_set, named_set, coordinate_set, selector_set1, selector_set2, read_set2};
 
-use crate::opcodes::{CRS, DP3, DP4, IFE, IFL, KIL, M33, M34, M44, NRM, TEX};
-use crate::swizzles;
+use crate::opcodes::{CRS, DP3, DP4, KIL, M33, M34, M44, NRM, OPENERS, TEX};
+use crate::{opcodes, swizzles};
+
+// Sets of opcodes, bit by bit: those that read a source by its first three selectors, those that read it by all four, and all that do not read
+// source 1 by the mask. They are asked of most tokens. A `match` on the opcode in their place was tried: 15 instructions in place of 9, and
+// twice as many branches guessed wrong.
+const BY_THREE_OF_SOURCE1: u64 = 1 << NRM | 1 << CRS | 1 << DP3 | 1 << M33;
+
+const BY_THREE_OF_SOURCE2: u64 = 1 << CRS | 1 << DP3;
+
+const BY_FOUR_OF_SOURCE1: u64 = 1 << DP4 | 1 << M44 | 1 << M34 | OPENERS;
+
+const BY_FOUR_OF_SOURCE2: u64 = 1 << DP4 | OPENERS;
+
+const NOT_BY_MASK_OF_SOURCE1: u64 = BY_THREE_OF_SOURCE1 | BY_FOUR_OF_SOURCE1 | 1 << KIL | 1 << TEX;
 
 pub const FIRST: u8 = 1;
 
@@ -16,13 +29,19 @@ const FIRST_THREE: u8 = 7;
 pub const ALL_FOUR: u8 = 15;
 
 // The selectors of source 1 that an opcode reads by, as a set; most opcodes read by the mask.
-#[tactic(auto, unfolding(crate::specs::computed::Sets::selector_set1))]
 pub fn selectors1(opcode: u32, mask: u8, dimension: u8) -> u8
     ensures { result ≡ selector_set1 opcode mask dimension }
 {
+    if !opcodes::among(NOT_BY_MASK_OF_SOURCE1, opcode) {
+        return mask;
+    }
+    if opcodes::among(BY_THREE_OF_SOURCE1, opcode) {
+        return FIRST_THREE;
+    }
+    if opcodes::among(BY_FOUR_OF_SOURCE1, opcode) {
+        return ALL_FOUR;
+    }
     match opcode {
-        NRM | CRS | DP3 | M33 => FIRST_THREE,
-        DP4 | M44 | M34 | IFE..=IFL => ALL_FOUR,
         KIL => FIRST,
         TEX => coordinates(dimension),
         _ => mask,
@@ -40,14 +59,15 @@ pub fn coordinates(dimension: u8) -> u8
 }
 
 // The selectors of source 2 that an opcode reads by.
-#[tactic(auto, unfolding(crate::specs::computed::Sets::selector_set2))]
 pub fn selectors2(opcode: u32, mask: u8) -> u8
     ensures { result ≡ selector_set2 opcode mask }
 {
-    match opcode {
-        CRS | DP3 => FIRST_THREE,
-        DP4 | IFE..=IFL => ALL_FOUR,
-        _ => mask,
+    if opcodes::among(BY_THREE_OF_SOURCE2, opcode) {
+        FIRST_THREE
+    } else if opcodes::among(BY_FOUR_OF_SOURCE2, opcode) {
+        ALL_FOUR
+    } else {
+        mask
     }
 }
 
