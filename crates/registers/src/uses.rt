@@ -5,23 +5,11 @@ ghost use Rattle.registers.specs.Uses.{is_readable, is_writable};
 pub fn is_readable(kind: u8, stage: u8) -> bool
     ensures { result ≡ is_readable kind stage }
 {
-    if stage == 0 {
-        return (kind == 0) | (kind == 1) | (kind == 2);
-    }
-    if stage == 1 {
-        return (kind == 1) | (kind == 2) | (kind == 4);
-    }
-    false
+    matches!((stage, kind), (0, 0 | 1 | 2) | (1, 1 | 2 | 4))
 }
 
 pub fn is_writable(kind: u8, stage: u8) -> bool
     ensures { result ≡ is_writable kind stage }
 {
-    if stage == 0 {
-        return (kind == 2) | (kind == 3) | (kind == 4);
-    }
-    if stage == 1 {
-        return (kind == 2) | (kind == 3) | (kind == 6);
-    }
-    false
+    matches!((stage, kind), (0, 2 | 3 | 4) | (1, 2 | 3 | 6))
 }
