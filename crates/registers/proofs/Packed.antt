@@ -11,7 +11,7 @@ use Rattle.registers.specs.Counts.{count_of}
 use Rattle.registers.specs.computed.Packed.{packed}
 use Rattle.registers.proofs.Outside.{outside_kind, outside_edition, outside_stage, no_edition}
 
-none_packed : (c : ℕ → ℕ) → ((k : ℕ) → c k ≡ 0) → 0 ≡ packed c
+pub none_packed : (c : ℕ → ℕ) → ((k : ℕ) → c k ≡ 0) → 0 ≡ packed c
 none_packed c h = rw (h 0, h 1, h 2, h 3, h 4, h 5, h 6)
 
 -- what is in no table counts 0

@@ -5,11 +5,19 @@ ghost use Rattle.registers.specs.Uses.{is_readable, is_writable};
 pub fn is_readable(kind: u8, stage: u8) -> bool
     ensures { result ≡ is_readable kind stage }
 {
-    matches!((stage, kind), (0, 0 | 1 | 2) | (1, 1 | 2 | 4))
+    match stage {
+        0 => matches!(kind, 0 | 1 | 2),
+        1 => matches!(kind, 1 | 2 | 4),
+        _ => false,
+    }
 }
 
 pub fn is_writable(kind: u8, stage: u8) -> bool
     ensures { result ≡ is_writable kind stage }
 {
-    matches!((stage, kind), (0, 2 | 3 | 4) | (1, 2 | 3 | 6))
+    match stage {
+        0 => matches!(kind, 2 | 3 | 4),
+        1 => matches!(kind, 2 | 3 | 6),
+        _ => false,
+    }
 }
