@@ -5,7 +5,7 @@ ghost use Rattle.layout.specs.computed.Groups.{source_shape, second_shape, is_br
 ghost use Rattle.layout.specs.computed.Sets.{among_of, ordinary_set};
 
 // What stands in the field of a source.
-#[derive(Clone, Copy)]
+#[derive(Clone, Copy, Debug, PartialEq, Eq)]
 pub enum OperandShape {
     Unused,
     Source,
@@ -13,7 +13,7 @@ pub enum OperandShape {
 }
 
 // What a token with some opcode holds. An opcode that is not listed holds nothing.
-#[derive(Clone, Copy)]
+#[derive(Clone, Copy, Debug, PartialEq, Eq)]
 pub struct Shape {
     pub listed: bool,
     pub destination: bool,
@@ -22,7 +22,7 @@ pub struct Shape {
 }
 
 // What a token does to branches.
-#[derive(Clone, Copy)]
+#[derive(Clone, Copy, Debug, PartialEq, Eq)]
 pub enum Flow {
     Plain,
     Opener,
