@@ -1,15 +1,14 @@
 // Decode: a record from 24 bytes, or the first fault.
 ghost use Rattle.std.specs.Prelude.{◌≡◌};
-ghost use Rattle.bytecode.specs.Decode.{Decodes, token_fault, unused_not_zero, undefined_bit_set, unused_part, undefined_part, lowest_part};
-ghost use Rattle.bytecode.specs.computed.CleanFields.{is_clean};
+ghost use Rattle.bytecode.specs.Decode.{Decodes, outcome, token_fault, unused_not_zero, undefined_bit_set, unused_part, undefined_part, lowest_part};
+ghost use Rattle.bytecode.specs.computed.CleanFields.{is_clean, part_of};
 ghost use Rattle.layout.specs.Records.{token_of};
 
 use crate::answers::{Decoded, Refusal};
 use crate::{fields, refusals};
-use layout::fields::Fields;
-use layout::opcodes::Shape;
+use layout::bits;
+use layout::fields::RawToken;
 use layout::record::Token;
-use layout::{bits, opcodes};
 
 pub fn decode(bytes: &[u8]) -> Decoded
     ensures { Decodes bytes.now result }
@@ -17,17 +16,20 @@ pub fn decode(bytes: &[u8]) -> Decoded
     if bytes.len() != 24 {
         return Decoded::Refused(refusals::refusal(24, 0, 0));
     }
-    let f = fields::read_fields(bytes);
-    let shape = opcodes::shape_of(f.opcode);
-    if is_clean(shape, f) {
-        return Decoded::Token(token_of(shape, f));
+    let raw = RawToken::of(fields::read_fields(bytes));
+    if !is_clean(raw) {
+        if let Err(refusal) = fault_of(raw) {
+            return Decoded::Refused(refusal);
+        }
     }
-    Decoded::Refused(fault_of(shape, f))
+    Decoded::Token(token_of(raw))
 }
 
-fn token_of(shape: Shape, f: Fields) -> Token
-    ensures { result ≡ token_of shape f }
+fn token_of(raw: RawToken) -> Token
+    ensures { result ≡ token_of raw.shape raw.fields }
 {
+    let shape = raw.shape;
+    let f = raw.fields;
     let shape1 = shape.source1;
     let shape2 = shape.source2;
     let destination = layout::unpack_destination(shape.destination, f.destination);
@@ -41,28 +43,28 @@ fn token_of(shape: Shape, f: Fields) -> Token
     }
 }
 
-// The first fault of a token's fields, 9, 12 or 13; number 0 where there is none.
-pub fn fault_of(shape: Shape, f: Fields) -> Refusal
-    ensures { result ≡ token_fault shape f }
+// The first fault of a token's fields, 9, 12 or 13.
+pub fn fault_of(raw: RawToken) -> Result<(), Refusal>
+    ensures { result ≡ outcome (token_fault raw.shape raw.fields) }
 {
-    if !shape.listed {
-        return refusals::refusal(9, 0, 0);
+    if !raw.shape.listed {
+        return Err(refusals::refusal(9, 0, 0));
     }
-    let unused = unused_part(shape, f);
-    if unused != 0 {
-        return refusals::refusal(12, 0, unused);
+    if let Some(part) = unused_part(raw) {
+        return Err(refusals::refusal(12, 0, part));
     }
-    let undefined = undefined_part(shape, f);
-    if undefined != 0 {
-        return refusals::refusal(13, 0, undefined);
+    if let Some(part) = undefined_part(raw) {
+        return Err(refusals::refusal(13, 0, part));
     }
-    refusals::refusal(0, 0, 0)
+    Ok(())
 }
 
 // Whether the opcode is listed and no field has a stray bit. Most tokens are clean, so it is tested before a fault is looked for.
-pub fn is_clean(shape: Shape, f: Fields) -> bool
-    ensures { result ≡ is_clean shape f }
+pub fn is_clean(raw: RawToken) -> bool
+    ensures { result ≡ is_clean raw.shape raw.fields }
 {
+    let shape = raw.shape;
+    let f = raw.fields;
     if !shape.listed {
         return false;
     }
@@ -74,10 +76,12 @@ pub fn is_clean(shape: Shape, f: Fields) -> bool
     !(destination | source1 | source2)
 }
 
-// The lowest part that is unused and not 0, or 0.
-fn unused_part(shape: Shape, f: Fields) -> u8
-    ensures { result ≡ unused_part shape f }
+// The lowest part that is unused and not 0.
+fn unused_part(raw: RawToken) -> Option<u8>
+    ensures { result ≡ part_of (unused_part raw.shape raw.fields) }
 {
+    let shape = raw.shape;
+    let f = raw.fields;
     let shape1 = shape.source1;
     let shape2 = shape.source2;
     lowest(
@@ -87,10 +91,12 @@ fn unused_part(shape: Shape, f: Fields) -> u8
     )
 }
 
-// The lowest part that is used and has an undefined bit set, or 0.
-fn undefined_part(shape: Shape, f: Fields) -> u8
-    ensures { result ≡ undefined_part shape f }
+// The lowest part that is used and has an undefined bit set.
+fn undefined_part(raw: RawToken) -> Option<u8>
+    ensures { result ≡ part_of (undefined_part raw.shape raw.fields) }
 {
+    let shape = raw.shape;
+    let f = raw.fields;
     let shape1 = shape.source1;
     let shape2 = shape.source2;
     lowest(
@@ -113,17 +119,17 @@ fn undefined_bit_set(defined: u64, field: u64) -> bool
     (defined != 0) & bits::is_stray(defined, field)
 }
 
-// The lowest part at fault, 0 where none is: 1 the destination, 2 source 1, 3 source 2.
-fn lowest(destination: bool, source1: bool, source2: bool) -> u8
-    ensures { result ≡ lowest_part destination source1 source2 }
+// The lowest part at fault: 1 the destination, 2 source 1, 3 source 2.
+fn lowest(destination: bool, source1: bool, source2: bool) -> Option<u8>
+    ensures { result ≡ part_of (lowest_part destination source1 source2) }
 {
     if destination {
-        1
+        Some(1)
     } else if source1 {
-        2
+        Some(2)
     } else if source2 {
-        3
+        Some(3)
     } else {
-        0
+        None
     }
 }

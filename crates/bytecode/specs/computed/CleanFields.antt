@@ -1,5 +1,5 @@
 -- A token's fields as the code takes them: those of any bytes, and whether they are without a fault that decode tells.
-use Rattle.std.specs.Prelude.{ℕ, Bool, not, cond, ◌&&◌, ◌||◌, List, ltb, length}
+use Rattle.std.specs.Prelude.{ℕ, Bool, not, cond, ◌&&◌, ◌||◌, List, ltb, eqb, length, Option, Some, None}
 use Rattle.layout.specs.Layout.{destination_bits, operand_bits, is_stray}
 use Rattle.layout.specs.declared.fields.Fields.{Fields}
 use Rattle.layout.specs.declared.opcodes.Shape.{Shape}
@@ -16,3 +16,7 @@ is_clean shape f =
     (is_stray (destination_bits shape.destination) f.destination
     || is_stray (operand_bits shape.source1) f.source1
     || is_stray (operand_bits shape.source2) f.source2)
+
+-- the part that a number names; 0 names none
+abbrev pub part_of : ℕ → Option ℕ
+part_of part = cond (eqb part 0) None (Some part)
