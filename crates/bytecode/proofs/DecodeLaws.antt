@@ -6,15 +6,15 @@ use mathlib.Core.List.{List}
 use mathlib.Core.Path.{◌≡◌, refl, ◌∙◌, sym, ap}
 use native.Mathlib.Omega.{arith}
 use lib.Dec.{eqb}
-use Rattle.std.specs.Prelude.{Some, None, Ok, Err}
+use Rattle.std.specs.Prelude.{Option, Some, None, Ok, Err}
 use lib.ListN.{length}
 use borrow.Author.Tests.{eq-eqb, ne_eqb, eqb-true, eqb-false, not-false}
 use Rattle.layout.specs.Opcodes.{shape_of}
 use Rattle.bytecode.specs.Fields.{fields_of}
 use Rattle.layout.specs.Layout.{destination_bits, operand_bits, is_stray}
 use Rattle.layout.specs.Records.{token_of}
-use Rattle.bytecode.specs.Decode.{refusal, no_refusal, outcome, lowest_part, unused_part, undefined_part, token_fault, decode_fault, decode_of, Decodes}
-use Rattle.bytecode.specs.computed.CleanFields.{is_clean, part_of}
+use Rattle.bytecode.specs.Decode.{refusal, no_refusal, outcome, unused_not_zero, undefined_bit_set, lowest_part, unused_part, undefined_part, token_fault, decode_fault, decode_of, Decodes}
+use Rattle.bytecode.specs.computed.CleanFields.{is_clean, part_of, LowestPart}
 use Rattle.layout.specs.declared.opcodes.Shape.{Shape}
 use Rattle.layout.specs.declared.fields.Fields.{Fields}
 use Rattle.layout.specs.declared.record.Token.{Token}
@@ -44,6 +44,14 @@ some_part n p e = go (eqb n 0) refl e
     go : (b : Bool) → eqb n 0 ≡ b → cond b None (Some n) ≡ Some p → (n ≡ p) × (eqb p 0 ≡ false)
     go true h k = absurd (false≢true cc)
     go false h k = let e : n ≡ p = cc in (e, rw e at h)
+
+pub is_unused_part : (s : Shape) (f : Fields) (part : Option ℕ) → LowestPart (λ d x r. r ≡ unused_not_zero d x) s f part → part ≡ part_of (unused_part s f)
+unfolding unused_part
+is_unused_part s f part l = l.lowest ∙ rw (l.of_destination, l.of_source1, l.of_source2)
+
+pub is_undefined_part : (s : Shape) (f : Fields) (part : Option ℕ) → LowestPart (λ d x r. r ≡ undefined_bit_set d x) s f part → part ≡ part_of (undefined_part s f)
+unfolding undefined_part
+is_undefined_part s f part l = l.lowest ∙ rw (l.of_destination, l.of_source1, l.of_source2)
 
 -- where none is named, the number is 0
 pub no_part : (n : ℕ) → ((p : ℕ) → part_of n ≡ Some p → ⊥) → eqb n 0 ≡ true

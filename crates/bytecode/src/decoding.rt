@@ -1,7 +1,7 @@
 // Decode: a record from 24 bytes, or the first fault.
 ghost use Rattle.std.specs.Prelude.{◌≡◌};
-ghost use Rattle.bytecode.specs.Decode.{Decodes, outcome, token_fault, unused_not_zero, undefined_bit_set, unused_part, undefined_part, lowest_part};
-ghost use Rattle.bytecode.specs.computed.CleanFields.{is_clean, part_of};
+ghost use Rattle.bytecode.specs.Decode.{Decodes, outcome, token_fault, unused_not_zero, undefined_bit_set, lowest_part};
+ghost use Rattle.bytecode.specs.computed.CleanFields.{is_clean, part_of, LowestPart};
 ghost use Rattle.layout.specs.Records.{token_of};
 
 use crate::answers::{Decoded, Refusal};
@@ -28,18 +28,12 @@ pub fn decode(bytes: &[u8]) -> Decoded
 fn token_of(raw: RawToken) -> Token
     ensures { result ≡ token_of raw.shape raw.fields }
 {
-    let shape = raw.shape;
-    let f = raw.fields;
-    let shape1 = shape.source1;
-    let shape2 = shape.source2;
-    let destination = layout::unpack_destination(shape.destination, f.destination);
-    let source1 = layout::unpack_operand(shape1, f.source1);
-    let source2 = layout::unpack_operand(shape2, f.source2);
+    let RawToken { shape, fields } = raw;
     Token {
-        opcode: f.opcode,
-        destination,
-        source1,
-        source2,
+        opcode: fields.opcode,
+        destination: layout::unpack_destination(shape.destination, fields.destination),
+        source1: layout::unpack_operand(shape.source1, fields.source1),
+        source2: layout::unpack_operand(shape.source2, fields.source2),
     }
 }
 
@@ -50,10 +44,10 @@ pub fn fault_of(raw: RawToken) -> Result<(), Refusal>
     if !raw.shape.listed {
         return Err(refusals::refusal(9, 0, 0));
     }
-    if let Some(part) = unused_part(raw) {
+    if let Some(part) = lowest_part(raw, unused_not_zero) {
         return Err(refusals::refusal(12, 0, part));
     }
-    if let Some(part) = undefined_part(raw) {
+    if let Some(part) = lowest_part(raw, undefined_bit_set) {
         return Err(refusals::refusal(13, 0, part));
     }
     Ok(())
@@ -63,47 +57,17 @@ pub fn fault_of(raw: RawToken) -> Result<(), Refusal>
 pub fn is_clean(raw: RawToken) -> bool
     ensures { result ≡ is_clean raw.shape raw.fields }
 {
-    let shape = raw.shape;
-    let f = raw.fields;
+    let RawToken { shape, fields } = raw;
     if !shape.listed {
         return false;
     }
-    let shape1 = shape.source1;
-    let shape2 = shape.source2;
-    let destination = bits::is_stray(bits::destination_bits(shape.destination), f.destination);
-    let source1 = bits::is_stray(bits::operand_bits(shape1), f.source1);
-    let source2 = bits::is_stray(bits::operand_bits(shape2), f.source2);
+    let destination = bits::is_stray(
+        bits::destination_bits(shape.destination),
+        fields.destination,
+    );
+    let source1 = bits::is_stray(bits::operand_bits(shape.source1), fields.source1);
+    let source2 = bits::is_stray(bits::operand_bits(shape.source2), fields.source2);
     !(destination | source1 | source2)
-}
-
-// The lowest part that is unused and not 0.
-fn unused_part(raw: RawToken) -> Option<u8>
-    ensures { result ≡ part_of (unused_part raw.shape raw.fields) }
-{
-    let shape = raw.shape;
-    let f = raw.fields;
-    let shape1 = shape.source1;
-    let shape2 = shape.source2;
-    lowest(
-        unused_not_zero(bits::destination_bits(shape.destination), f.destination),
-        unused_not_zero(bits::operand_bits(shape1), f.source1),
-        unused_not_zero(bits::operand_bits(shape2), f.source2),
-    )
-}
-
-// The lowest part that is used and has an undefined bit set.
-fn undefined_part(raw: RawToken) -> Option<u8>
-    ensures { result ≡ part_of (undefined_part raw.shape raw.fields) }
-{
-    let shape = raw.shape;
-    let f = raw.fields;
-    let shape1 = shape.source1;
-    let shape2 = shape.source2;
-    lowest(
-        undefined_bit_set(bits::destination_bits(shape.destination), f.destination),
-        undefined_bit_set(bits::operand_bits(shape1), f.source1),
-        undefined_bit_set(bits::operand_bits(shape2), f.source2),
-    )
 }
 
 // A field with no defined bits is unused, and must be 0.
@@ -119,7 +83,22 @@ fn undefined_bit_set(defined: u64, field: u64) -> bool
     (defined != 0) & bits::is_stray(defined, field)
 }
 
-// The lowest part at fault: 1 the destination, 2 source 1, 3 source 2.
+// The lowest part that a test finds at fault, by a field's defined bits and the field: 1 the destination, 2 source 1, 3 source 2.
+fn lowest_part<F: Fn(u64, u64) -> bool>(raw: RawToken, is_at_fault: F) -> Option<u8>
+    requires { F.IsAlwaysCallable is_at_fault }
+    ensures { LowestPart (F.post is_at_fault) raw.shape raw.fields result }
+{
+    let RawToken { shape, fields } = raw;
+    lowest(
+        is_at_fault(
+            bits::destination_bits(shape.destination),
+            fields.destination,
+        ),
+        is_at_fault(bits::operand_bits(shape.source1), fields.source1),
+        is_at_fault(bits::operand_bits(shape.source2), fields.source2),
+    )
+}
+
 fn lowest(destination: bool, source1: bool, source2: bool) -> Option<u8>
     ensures { result ≡ part_of (lowest_part destination source1 source2) }
 {
