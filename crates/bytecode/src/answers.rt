@@ -1,8 +1,7 @@
-// What decode and encode answer.
+// What decode, encode and every other call answer that refuses.
 ghost use Rattle.std.specs.Prelude.{Some};
 ghost use Rattle.bytecode.specs.Refusal.{refusal_text};
 
-use layout::record::Token;
 use std::error::Error;
 use std::fmt;
 
@@ -30,15 +29,3 @@ impl fmt::Display for Refusal {
 }
 
 impl Error for Refusal {}
-
-#[derive(Clone, Copy)]
-pub enum Decoded {
-    Token(Token),
-    Refused(Refusal),
-}
-
-#[derive(Clone, Copy)]
-pub enum Encoded {
-    Written,
-    Refused(Refusal),
-}

@@ -4,25 +4,23 @@ ghost use Rattle.bytecode.specs.Decode.{Decodes, outcome, token_fault, unused_no
 ghost use Rattle.bytecode.specs.computed.CleanFields.{is_clean, part_of, LowestPart};
 ghost use Rattle.layout.specs.Records.{token_of};
 
-use crate::answers::{Decoded, Refusal};
+use crate::answers::Refusal;
 use crate::{fields, refusals};
 use layout::bits;
 use layout::fields::RawToken;
 use layout::record::Token;
 
-pub fn decode(bytes: &[u8]) -> Decoded
+pub fn decode(bytes: &[u8]) -> Result<Token, Refusal>
     ensures { Decodes bytes.now result }
 {
     if bytes.len() != 24 {
-        return Decoded::Refused(refusals::refusal(24, 0, 0));
+        return Err(refusals::refusal(24, 0, 0));
     }
     let raw = RawToken::of(fields::read_fields(bytes));
     if !is_clean(raw) {
-        if let Err(refusal) = fault_of(raw) {
-            return Decoded::Refused(refusal);
-        }
+        fault_of(raw)?;
     }
-    Decoded::Token(token_of(raw))
+    Ok(token_of(raw))
 }
 
 fn token_of(raw: RawToken) -> Token

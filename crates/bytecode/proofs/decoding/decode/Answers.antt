@@ -3,18 +3,20 @@ use mathlib.Core.Path.{◌∙◌, sym, ap}
 use Rattle.layout.specs.Records.{token_of}
 use Rattle.bytecode.specs.Decode.{token_fault, outcome}
 use Rattle.bytecode.specs.computed.CleanFields.{is_clean}
+use Rattle.std.proofs.lemmas.Result.{err_from_is_err_and}
 use Rattle.bytecode.proofs.DecodeLaws.{wrong_length, with_told, no_faults, not_told, clean_none, clean_by}
 use Rattle.bytecode.proofs.decoding.decode.Goals as goal
-use Rattle.bytecode.proofs.decoding.decode.Goals.{then-not-is_clean+in_default, else-not-is_clean}
+use Rattle.bytecode.proofs.decoding.decode.Goals.{then-not-is_clean+in_ok-fault_of, else-not-is_clean}
 
 pub returns-then-bytes-ne24 : goal.returns-then-bytes-ne24
 returns-then-bytes-ne24 c = rw c.refusal.ensures (wrong_length _ c.if-bytes-ne24.true)
 
-pub returns-in-Err : goal.returns-in-Err
-returns-in-Err c =
+pub returns-in_err-fault_of : goal.returns-in_err-fault_of
+returns-in_err-fault_of c =
     let raw = rw c.read_fields.ensures at c.of-raw.ensures in
     let fault = ap (λ r. outcome (token_fault r.shape r.fields)) raw in
-    with_told _ c.if-bytes-ne24.false _ (sym fault ∙ sym c.fault_of.ensures ∙ c.in-Err.is)
+    let told = err_from_is_err_and c.from_residual.result c.from_residual.ensures.1 in
+    rw (told.1, told.2) (with_told _ c.if-bytes-ne24.false _ (sym fault ∙ sym c.fault_of.ensures ∙ c.in_err-fault_of.was))
 
 pub returns : goal.returns
 returns c =
@@ -25,7 +27,7 @@ returns c =
     rw token
     (no_faults _ c.if-bytes-ne24.false (
     elim c.if-not-is_clean.branch [
-      | then-not-is_clean+in_default w ↦ not_told _ (λ r e. w.in_default.not-Err r (w.fault_of.ensures ∙ fault ∙ e))
+      | then-not-is_clean+in_ok-fault_of w ↦ not_told _ _ (sym fault ∙ sym w.fault_of.ensures ∙ w.in_ok-fault_of.was)
       | else-not-is_clean w ↦
           ap (λ r. r.number) (clean_none _ _ (clean_by _ _ (sym clean ∙ sym c.is_clean.ensures ∙ w.if-not-is_clean.false)))
     ]
