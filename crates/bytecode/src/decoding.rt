@@ -2,7 +2,6 @@
 ghost use Rattle.std.specs.Prelude.{◌≡◌};
 ghost use Rattle.bytecode.specs.Decode.{Decodes, outcome, token_fault, unused_not_zero, undefined_bit_set, lowest_part};
 ghost use Rattle.bytecode.specs.computed.CleanFields.{is_clean, part_of, LowestPart};
-ghost use Rattle.layout.specs.Records.{token_of};
 
 use crate::answers::Refusal;
 use crate::{fields, refusals};
@@ -20,19 +19,7 @@ pub fn decode(bytes: &[u8]) -> Result<Token, Refusal>
     if !is_clean(raw) {
         fault_of(raw)?;
     }
-    Ok(token_of(raw))
-}
-
-fn token_of(raw: RawToken) -> Token
-    ensures { result ≡ token_of raw.shape raw.fields }
-{
-    let RawToken { shape, fields } = raw;
-    Token {
-        opcode: fields.opcode,
-        destination: layout::unpack_destination(shape.destination, fields.destination),
-        source1: layout::unpack_operand(shape.source1, fields.source1),
-        source2: layout::unpack_operand(shape.source2, fields.source2),
-    }
+    Ok(raw.token())
 }
 
 // The first fault of a token's fields, 9, 12 or 13.

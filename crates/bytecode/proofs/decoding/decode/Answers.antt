@@ -23,7 +23,7 @@ returns c =
     let raw = rw c.read_fields.ensures at c.of-raw.ensures in
     let fault = ap (λ r. outcome (token_fault r.shape r.fields)) raw in
     let clean = ap (λ r. is_clean r.shape r.fields) raw in
-    let token = c.token_of.ensures ∙ ap (λ r. token_of r.shape r.fields) raw in
+    let token = c.token.ensures ∙ ap (λ r. token_of r.shape r.fields) raw in
     rw token
     (no_faults _ c.if-bytes-ne24.false (
     elim c.if-not-is_clean.branch [
