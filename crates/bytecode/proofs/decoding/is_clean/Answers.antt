@@ -7,7 +7,7 @@ use Rattle.bytecode.proofs.decoding.is_clean.Goals as goal
 -- Assumes nothing.
 pub returns-then-not-shape : goal.returns-then-not-shape
 unfolding is_clean
-returns-then-not-shape c = simp (not-true c.args.shape.listed c.if-not-shape.true)
+returns-then-not-shape c = simp (not-true c.args.raw.shape.listed c.if-not-shape.true)
 
 pub returns : goal.returns
 unfolding is_clean
@@ -19,5 +19,5 @@ returns c =
       c.operand_bits.ensures,
       c.is_stray-destination.ensures,
       c.destination_bits.ensures,
-      not-false c.args.shape.listed c.if-not-shape.false,
+      not-false c.args.raw.shape.listed c.if-not-shape.false,
     )
