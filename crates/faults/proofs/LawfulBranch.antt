@@ -23,9 +23,8 @@ use Rattle.components.specs.computed.ReadsWritten.{ReadsWritten}
 use Rattle.components.specs.computed.Written.{component_set}
 use Rattle.components.specs.declared.written.Written.{Written}
 use Rattle.components.proofs.QuickLaws.{opener_reads}
-use Rattle.faults.specs.Rules.{opcode_too_new}
+use Rattle.faults.specs.Rules.{opcode_too_new, matrix_swizzled}
 use Rattle.faults.specs.computed.Profile.{profile_of}
-use Rattle.faults.specs.computed.Faults.{swizzle_wrong}
 use Rattle.faults.specs.computed.LawfulTests.{is_lawful_either, is_lawful_branch}
 use Rattle.faults.proofs.LawfulOpcodes.{no_stage, no_selectors}
 use Rattle.faults.proofs.LawfulOperands.{LawfulSource, no_destination, no_source, lawful_either}
@@ -61,7 +60,7 @@ module _ (edition stage : ℕ) (f : Fields) where
       let new : opcode_too_new edition o ≡ false = rw (ne_eqb edition 1 later) in
       let through = subst (λ n. LawfulSource edition stage (source_shape opener) n f.source2) (sym (one_row o (outside_matrices o matrix))) second in
       together edition stage f (source_shape opener) whole (no_destination edition stage o f.destination none) first branch new (no_stage edition stage o fragment) (no_selectors edition stage o fragment (direct_of f.source1).swizzle)
-      through.defined (through.right (swizzle_wrong true o) (ap (λ b. b && not (eqb (direct_of f.source2).swizzle 0xe4)) matrix)) Enough (branch_reads opener is whole)
+      through.defined (through.right (matrix_swizzled o) 3 (ap (λ b. b && not (eqb (direct_of f.source2).swizzle 0xe4)) matrix)) Enough (branch_reads opener is whole)
 
   -- the test of a source, by whether the token is an opener
   abbrev source : Bool → ℕ → Bool

@@ -16,8 +16,8 @@ use Rattle.layout.specs.declared.fields.Fields.{Fields}
 use Rattle.layout.specs.declared.opcodes.OperandShape.TheVariants.{Unused}
 use Rattle.components.specs.computed.QuickTests.{kil_may_read_unwritten}
 use Rattle.components.proofs.QuickLaws.{kil_reads}
+use Rattle.faults.specs.Rules.{selectors_differ}
 use Rattle.faults.specs.computed.Profile.{profile_of}
-use Rattle.faults.specs.computed.Faults.{swizzle_wrong}
 use Rattle.faults.specs.computed.LawfulTests.{is_lawful_source, repeats_first, is_lawful_kil}
 use Rattle.faults.proofs.LawfulOpcodes.{no_edition, is_fragment, in_fragment}
 use Rattle.faults.proofs.LawfulOperands.{is_direct, lawful_direct, no_destination, no_source}
@@ -51,8 +51,8 @@ module _ (edition stage : ℕ) (f : Fields) where
   abbrev swizzle : ℕ
   swizzle = value_of layout.swizzle f.source1
 
-  right_swizzle : o ≡ kil → repeats_first swizzle ≡ true → swizzle_wrong false o swizzle ≡ false
-  right_swizzle is e = ap (λ o. swizzle_wrong false o swizzle) is ∙ ap not (sym (repeats_agree swizzle (omega arith)) ∙ e)
+  right_swizzle : o ≡ kil → repeats_first swizzle ≡ true → selectors_differ o swizzle ≡ false
+  right_swizzle is e = ap (λ o. selectors_differ o swizzle) is ∙ ap not (sym (repeats_agree swizzle (omega arith)) ∙ e)
 
   when_kil : o ≡ kil → (fragment && bare && single && first && repeats_first swizzle) ≡ true → LawfulKil
   unfolding row_of shape_of_row

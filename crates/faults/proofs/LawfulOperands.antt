@@ -2,6 +2,7 @@
 -- Assumes nothing.
 use Prim.Native.Nat.{ℕ, ◌≤◌, ◌+◌, ◌-◌, ◌<◌}
 use mathlib.Core.Bool.{Bool, true, false, not, cond, ◌&&◌, true≢false, false≢true}
+use mathlib.Core.Option.{none}
 use mathlib.Core.Path.{◌≡◌, refl, ◌∙◌, ap, sym, subst}
 use native.Mathlib.Omega.{arith}
 use lib.Dec.{eqb, ltb, leb}
@@ -19,10 +20,9 @@ use Rattle.layout.proofs.Stray.{wider, value_within}
 use Rattle.registers.specs.Counts.{count_of}
 use Rattle.registers.specs.Uses.{is_readable, is_writable}
 use Rattle.faults.specs.Rules.{destination_wrong, mask_wrong, direct_wrong, indexed_wrong}
-use Rattle.faults.specs.computed.Profile.{profile_of, count_in}
+use Rattle.faults.specs.computed.Profile.{profile_of, count_at, count_in}
 use Rattle.faults.specs.Order.{first_fault, source_rules}
-use Rattle.faults.specs.computed.Faults.{number_of}
-use Rattle.faults.specs.computed.LawfulTests.{count_at, is_source, lawful_source_bits, is_lawful_destination, is_lawful_source, is_rightly_indexed, is_lawful_either}
+use Rattle.faults.specs.computed.LawfulTests.{is_source, lawful_source_bits, is_lawful_destination, is_lawful_source, is_rightly_indexed, is_lawful_either}
 use Rattle.faults.specs.declared.profile.Profile.{Profile}
 use Rattle.faults.proofs.Counts.{counts_are}
 use Rattle.faults.proofs.UsableCounts.{usable_in, if_used, is_index, readable_counts, writable_counts, indexing_counts}
@@ -30,19 +30,19 @@ use Rattle.faults.proofs.UsableCounts.{usable_in, if_used, is_index, readable_co
 -- no rule of an operand of so many rows, where 18 is not broken
 abbrev NoSourceFault : Profile → ℕ → ℕ → Operand → Type 0
 NoSourceFault profile rows field o =
-    (swizzled : ℕ → Bool) → swizzled (direct_of field).swizzle ≡ false
-    → number_of (first_fault (source_rules (count_in profile) profile.stage rows swizzled 0 o)) ≡ 0
+    (swizzled : ℕ → Bool) (part : ℕ) → swizzled (direct_of field).swizzle ≡ false
+    → first_fault (source_rules (count_in profile) profile.stage rows swizzled part o) ≡ none
 
 module _ (p : Profile) (rows field : ℕ) where
   right_direct : is_indexed field ≡ false → direct_wrong (count_in p) p.stage rows (direct_of field) ≡ false → NoSourceFault p rows field (source_of field)
-  right_direct i d swizzled h = ap (λ o. number_of (first_fault (source_rules (count_in p) p.stage rows swizzled 0 o))) (direct_source field i) ∙ simp (d, h)
+  right_direct i d swizzled part h = ap (λ o. first_fault (source_rules (count_in p) p.stage rows swizzled part o)) (direct_source field i) ∙ simp (d, h)
 
   right_indexed : is_indexed field ≡ true → indexed_wrong (count_in p) p.stage rows (indexed_of field) ≡ false → NoSourceFault p rows field (source_of field)
-  right_indexed i d swizzled h = ap (λ o. number_of (first_fault (source_rules (count_in p) p.stage rows swizzled 0 o))) (indexed_source field i) ∙ simp (d, h)
+  right_indexed i d swizzled part h = ap (λ o. first_fault (source_rules (count_in p) p.stage rows swizzled part o)) (indexed_source field i) ∙ simp (d, h)
 
 -- a field of bits without D is not indexed
 not_indexed : (bits field : ℕ) → value_of layout.indirect bits ≡ 0 → is_stray bits field ≡ false → is_indexed field ≡ false
-not_indexed bits field none stray = rw (eq-eqb (value_of layout.indirect field) 0 (omega (arith, none, value_within layout.indirect bits field stray)))
+not_indexed bits field direct stray = rw (eq-eqb (value_of layout.indirect field) 0 (omega (arith, direct, value_within layout.indirect bits field stray)))
 
 -- so a source that is told as direct, or as not used, is not
 pub is_direct : (readable : ℕ) (used : Bool) (rows field : ℕ) → is_lawful_source readable used rows field ≡ true → is_indexed field ≡ false
@@ -102,7 +102,7 @@ module _ (edition stage : ℕ) where
   no_destination opcode field e = record { defined = ap (is_stray 0) e; right = refl; mask = refl }
 
   pub no_source : (rows field : ℕ) → field ≡ 0 → LawfulSource Unused rows field
-  no_source rows field e = record { defined = ap (is_stray 0) e; right = λ swizzled h. refl }
+  no_source rows field e = record { defined = ap (is_stray 0) e; right = λ swizzled part h. refl }
 
   -- a source that is used, of one row or more
   pub lawful_direct : (rows field : ℕ) → 1 ≤ rows → is_lawful_source (usable_in edition stage).readable true rows field ≡ true → LawfulSource Source rows field
@@ -128,7 +128,7 @@ module _ (edition stage : ℕ) where
   lawful_unused rows field e =
       record {
         defined = not-true (is_stray 0 field) (left (not (is_stray 0 field)) true e);
-        right = λ swizzled h. refl;
+        right = λ swizzled part h. refl;
       }
 
   pub lawful_second : (shape : OperandShape) (field : ℕ) → is_sampler shape ≡ false → is_lawful_source (usable_in edition stage).readable (is_source shape) 1 field ≡ true → LawfulSource shape 1 field

@@ -2,6 +2,7 @@
 -- Assumes nothing.
 use Prim.Native.Nat.{ℕ}
 use mathlib.Core.Bool.{Bool, true, false, not, cond, ◌&&◌, ◌||◌, or-true, false≢true}
+use mathlib.Core.Option.{none}
 use mathlib.Core.Path.{◌≡◌, refl, ◌∙◌, ap, sym, subst}
 use native.Mathlib.Omega.{arith}
 use lib.Dec.{eqb}
@@ -26,16 +27,16 @@ use Rattle.components.specs.declared.written.Written.{Written}
 use Rattle.components.proofs.QuickLaws.{ordinary_reads, matrix_reads, tex_reads}
 use Rattle.layout.proofs.OpcodeLists.{is_ordinary_lem, matrix_shape, many_rows}
 use Rattle.layout.proofs.OpcodeSets.{one_row, outside_matrices}
-use Rattle.faults.specs.Rules.{opcode_too_new, destination_wrong, mask_wrong, opcode_not_for_stage, sampler_wrong}
+use Rattle.faults.specs.Rules.{opcode_too_new, destination_wrong, mask_wrong, opcode_not_for_stage, selectors_differ, matrix_swizzled, sampler_wrong}
 use Rattle.faults.specs.computed.Profile.{profile_of, count_in}
 use Rattle.faults.specs.Order.{first_fault, source_rules}
-use Rattle.faults.specs.computed.Faults.{number_of, swizzle_wrong, own_fault}
+use Rattle.faults.specs.computed.Faults.{record_fault, own_fault}
 use Rattle.faults.specs.computed.LawfulTests.{is_source, is_lawful_destination, is_lawful_source, is_lawful, is_lawful_matrix, is_lawful_tex}
 use Rattle.faults.specs.declared.profile.Profile.{Profile}
 use Rattle.faults.proofs.LawfulOpcodes.{LawfulOpcode, no_edition, in_fragment, known_ordinary, ordinary_opcode, matrix_opcode}
 use Rattle.faults.proofs.LawfulOperands.{LawfulDestination, LawfulSource, is_direct, lawful_destination, lawful_direct, lawful_second}
 use Rattle.faults.proofs.UsableCounts.{usable_in, usable_opcodes}
-use Rattle.faults.proofs.FaultLaws.{staged}
+use Rattle.faults.proofs.FaultLaws.{first_append}
 
 -- a token has none of faults 10 to 19, wherever it stands
 abbrev pub NoOwnFault : Profile → Token → Type 0
@@ -43,11 +44,11 @@ NoOwnFault profile t = (token : ℕ) → own_fault profile token t ≡ no_refusa
 
 pub no_own_fault : (p : Profile) (t : Token) → opcode_too_new p.edition t.opcode ≡ false → opcode_not_for_stage p.stage t.opcode ≡ false
     → destination_wrong (count_in p) p.stage t.destination ≡ false → mask_wrong t.opcode t.destination ≡ false
-    → number_of (first_fault (source_rules (count_in p) p.stage 1 (swizzle_wrong false t.opcode) 0 t.source1)) ≡ 0
-    → number_of (first_fault (source_rules (count_in p) p.stage (row_count2 t.opcode) (swizzle_wrong true t.opcode) 0 t.source2)) ≡ 0
+    → first_fault (source_rules (count_in p) p.stage 1 (selectors_differ t.opcode) 2 t.source1) ≡ none
+    → first_fault (source_rules (count_in p) p.stage (row_count2 t.opcode) (matrix_swizzled t.opcode) 3 t.source2) ≡ none
     → NoOwnFault p t
-unfolding own_fault
-no_own_fault p t new stage d m first second token = simp (new, stage, staged p token t, d, m, first, second)
+unfolding own_fault record_fault
+no_own_fault p t new stage d m first second token = simp (new, stage, d, m, first_append, first, second)
 
 module _ (edition stage : ℕ) where
   abbrev profile : Profile
@@ -81,9 +82,9 @@ module _ (edition stage : ℕ) where
     pub together : {branch used : Bool} {shape1 : OperandShape} (shape2 : OperandShape) → shape_of o ≡ holds used shape1 shape2
         → LawfulDestination edition stage used o f.destination → LawfulSource edition stage shape1 1 f.source1
         → is_branch o ≡ branch → opcode_too_new edition o ≡ false → opcode_not_for_stage stage o ≡ false
-        → swizzle_wrong false o (direct_of f.source1).swizzle ≡ false
+        → selectors_differ o (direct_of f.source1).swizzle ≡ false
         → is_stray (operand_bits shape2) f.source2 ≡ false
-        → number_of (first_fault (source_rules (count_in profile) stage (row_count2 o) (swizzle_wrong true o) 0 (operand_of shape2 f.source2))) ≡ 0
+        → first_fault (source_rules (count_in profile) stage (row_count2 o) (matrix_swizzled o) 3 (operand_of shape2 f.source2)) ≡ none
         → (Enough : Written → Type 0) → ((s : Written) → Enough s → ReadsWritten s f) → ToldLawful branch used Enough f
     unfolding token_of
     together {branch} {used} {shape1} shape2 whole into from flow new for_stage swizzle defined second Enough reads =
@@ -91,7 +92,7 @@ module _ (edition stage : ℕ) where
         record {
           flow = flow;
           clean = is_clean_lem (shape_of o) f (subst (λ s. Clean s f) (sym whole) (record { listed = refl; destination = into.defined; source1 = from.defined; source2 = defined }));
-          right = subst (λ s. NoOwnFault profile (token_of s f)) (sym whole) (no_own_fault profile t new for_stage into.right into.mask (from.right (swizzle_wrong false o) swizzle) second);
+          right = subst (λ s. NoOwnFault profile (token_of s f)) (sym whole) (no_own_fault profile t new for_stage into.right into.mask (from.right (selectors_differ o) 2 swizzle) second);
           destination = ap (λ s. destination_of s.destination f.destination) whole;
           reads = reads;
         }
@@ -103,7 +104,7 @@ module _ (edition stage : ℕ) where
         → (unwritten : Written → Fields → Bool) → ((s : Written) → unwritten s f ≡ false → ReadsWritten s f) → LawfulToken unwritten f
     by_opcode rules into from through unswizzled unwritten reads =
         together (shape_of o).source2 rules.shape.0 into from rules.flow rules.new rules.for_stage (rules.swizzle1 (direct_of f.source1).swizzle)
-        through.defined (through.right (swizzle_wrong true o) (rules.swizzle2 (value_of layout.swizzle f.source2) unswizzled)) (λ s. unwritten s f ≡ false) reads
+        through.defined (through.right (matrix_swizzled o) 3 (rules.swizzle2 (value_of layout.swizzle f.source2) unswizzled)) (λ s. unwritten s f ≡ false) reads
 
     module _ (e : (destination && first) ≡ true) where
       into : LawfulDestination edition stage true o f.destination
@@ -181,7 +182,7 @@ module _ (edition stage : ℕ) where
         let both = left (destination && first) (eqb stage 1) three in
         let right-sampler = not-true wrong (right (destination && first && eqb stage 1 && not stray) (not wrong) e) in
         together Sampler (ap shape_of is) (into both) (from both) (ap is_branch is) (no_edition edition stage o (ap is_added is)) (in_fragment edition stage o (right (destination && first) (eqb stage 1) three))
-        (ap (λ o. swizzle_wrong false o (direct_of f.source1).swizzle) is)
+        (ap (λ o. selectors_differ o (direct_of f.source1).swizzle) is)
         (not-true stray (right (destination && first && eqb stage 1) (not stray) four))
         (rw right-sampler)
         (λ s. tex_may_read_unwritten s f ≡ false) (λ s l. tex_reads s f l is (direct_first both))

@@ -14,8 +14,8 @@ use Rattle.registers.specs.Counts.{count_of}
 use Rattle.registers.specs.Uses.{is_readable, is_writable}
 use Rattle.registers.proofs.Outside.{outside_edition, outside_stage}
 use Rattle.registers.proofs.Packed.{none_packed}
-use Rattle.faults.specs.computed.Profile.{profile_of}
-use Rattle.faults.specs.computed.LawfulTests.{usable, usable_of, count_at}
+use Rattle.faults.specs.computed.Profile.{profile_of, count_at}
+use Rattle.faults.specs.computed.LawfulTests.{usable, usable_of}
 use Rattle.faults.specs.declared.lawful.Usable.{Usable}
 use Rattle.faults.specs.declared.profile.Profile.{Profile}
 

@@ -1,9 +1,9 @@
 // Lawful tokens: a few tests of their fields tell that they have none of faults 9 to 19. Each test says yes of lawful tokens alone, and of most
 // of them; the others are judged rule by rule.
 ghost use Rattle.std.specs.Prelude.{true, ◌≡◌};
-ghost use Rattle.faults.specs.computed.LawfulTests.{usable_of, count_at, is_source, lawful_source_bits, is_lawful_destination, is_lawful_source, is_rightly_indexed, is_lawful_either, is_lawful, is_lawful_matrix, is_lawful_tex, is_lawful_kil, is_lawful_indexed, is_lawful_branch, LawfulWith, LawfulUnder};
+ghost use Rattle.faults.specs.computed.LawfulTests.{usable_of, is_source, lawful_source_bits, is_lawful_destination, is_lawful_source, is_rightly_indexed, is_lawful_either, is_lawful, is_lawful_matrix, is_lawful_tex, is_lawful_kil, is_lawful_indexed, is_lawful_branch, LawfulWith, LawfulUnder};
 
-use crate::profile::Profile;
+use crate::profile::{Profile, count_at};
 use crate::rules;
 use layout::fields::Fields;
 use layout::opcodes::OperandShape;
@@ -91,7 +91,7 @@ pub fn is_lawful_tex(profile: Profile, usable: Usable, f: Fields) -> bool
         & is_lawful_source(usable.readable, true, 1, f.source1)
         & (profile.stage == 1)
         & !bits::is_stray(bits::operand_bits(OperandShape::Sampler), f.source2)
-        & !rules::sampler_wrong(profile, sampler)
+        & !profile.sampler_wrong(sampler)
 }
 
 // The same of kil, in a fragment program: a direct source whose selectors agree, and nothing else. A swizzle that repeats a selector is 0x55
@@ -149,7 +149,7 @@ fn is_lawful_destination(writable: u64, opcode: u32, field: u64) -> bool
     let r = layout::unpack_register(field);
     !bits::is_stray(DESTINATION_BITS, field)
         & (r.number < count_at(writable, r.kind))
-        & !rules::mask_wrong(opcode, true, field)
+        & !rules::is_wrong_mask(opcode, r.mask)
 }
 
 // A source that is not used is 0.
@@ -198,10 +198,4 @@ fn is_source(shape: OperandShape) -> bool
         OperandShape::Source => true,
         OperandShape::Sampler => false,
     }
-}
-
-fn count_at(counts: u64, kind: u8) -> u16
-    ensures { result ≡ count_at counts kind }
-{
-    ((counts >> (8 * (kind % 8) as u32)) % 256) as u16
 }

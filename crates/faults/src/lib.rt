@@ -12,5 +12,3 @@ pub use lawful::{
     is_lawful, is_lawful_branch, is_lawful_indexed, is_lawful_kil, is_lawful_matrix, is_lawful_tex,
     usable_of,
 };
-pub use profile::profile_of;
-pub use tokens::{own_fault, undecoded_fault};

@@ -1,6 +1,6 @@
 -- What the tests compute that tell lawful tokens by a few looks at their fields, and what the answer "yes" means: the token is Lawful. Nobody
 -- has to believe these.
-use Rattle.std.specs.Prelude.{ℕ, ◌+◌, ◌*◌, ◌/◌, ◌%◌, ◌^◌, Bool, true, false, not, cond, ◌&&◌, ◌||◌, ◌≡◌, eqb, ltb, leb}
+use Rattle.std.specs.Prelude.{ℕ, ◌+◌, ◌*◌, ◌%◌, Bool, true, false, not, cond, ◌&&◌, ◌||◌, ◌≡◌, eqb, ltb, leb}
 use Rattle.std.specs.Int.Bits.{bit_and}
 use Rattle.layout.specs.Layout as layout
 use Rattle.layout.specs.Layout.{value_of, operand_bits, is_stray}
@@ -13,7 +13,7 @@ use Rattle.layout.specs.declared.opcodes.OperandShape.{OperandShape}
 use Rattle.layout.specs.declared.opcodes.OperandShape.TheVariants.{Unused, Source, Sampler}
 use Rattle.faults.specs.Rules.{mask_wrong, sampler_wrong}
 use Rattle.faults.specs.Lawful.{Lawful}
-use Rattle.faults.specs.computed.Profile.{profile_of, count_in}
+use Rattle.faults.specs.computed.Profile.{profile_of, count_at, count_in}
 use Rattle.faults.specs.declared.lawful.Usable.{Usable}
 use Rattle.faults.specs.declared.profile.Profile.{Profile}
 
@@ -27,10 +27,6 @@ usable_of p =
     cond (eqb p.stage 0)
     (usable (ordinary_set p.edition) (bit_and p.counts 0xffffff) (bit_and p.counts 0xffffff0000) (bit_and p.counts 0xffffff))
     (usable (ordinary_set p.edition) (bit_and p.counts 0xff00ffff00) (bit_and p.counts 0xff0000ffff0000) 0)
-
--- the count of a kind below 8
-abbrev pub count_at : ℕ → ℕ → ℕ
-count_at counts kind = counts / 2 ^ (8 * (kind % 8)) % 256
 
 abbrev pub is_source : OperandShape → Bool
 is_source Unused = false

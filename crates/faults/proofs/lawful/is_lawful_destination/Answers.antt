@@ -6,7 +6,7 @@ pub returns : goal.returns
 unfolding is_lawful_destination
 returns c =
     simp (
-      c.mask_wrong.ensures,
+      c.is_wrong_mask.ensures,
       c.count_at.ensures,
       c.is_stray.ensures,
       c.unpack_register-r.ensures,
