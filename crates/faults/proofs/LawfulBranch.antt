@@ -24,8 +24,7 @@ use Rattle.components.specs.computed.Written.{component_set}
 use Rattle.components.specs.declared.written.Written.{Written}
 use Rattle.components.proofs.QuickLaws.{opener_reads}
 use Rattle.faults.specs.Rules.{opcode_too_new, matrix_swizzled}
-use Rattle.faults.specs.computed.Profile.{profile_of}
-use Rattle.faults.specs.computed.LawfulTests.{is_lawful_either, is_lawful_branch}
+use Rattle.faults.specs.computed.LawfulTests.{is_lawful_either, is_lawful_branch, usable_of}
 use Rattle.faults.proofs.LawfulOpcodes.{no_stage, no_selectors}
 use Rattle.faults.proofs.LawfulOperands.{LawfulSource, no_destination, no_source, lawful_either}
 use Rattle.faults.proofs.LawfulToken.{ToldLawful, together}
@@ -85,8 +84,8 @@ module _ (edition stage : ℕ) (f : Fields) where
       (eqb-false edition 1 (not-true (eqb edition 1) (left later none two))) (eqb-true f.destination 0 (right later none two))
       (lawful_source opener f.source1 (right (later && none) first three)) (lawful_source opener f.source2 (right (later && none && first) second e))
 
-  pub lawful_branch : is_lawful_branch (profile_of edition stage) (usable_in edition stage) f ≡ true → LawfulBranch
-  unfolding is_lawful_branch
+  pub lawful_branch : is_lawful_branch (usable_in edition stage) f ≡ true → LawfulBranch
+  unfolding is_lawful_branch usable_of
   lawful_branch e = go (is_branch o) (is_opener o) refl refl e
     where
       go : (b opener : Bool) → is_branch o ≡ b → is_opener o ≡ opener → cond (not b) false (cond opener (tests true) (tests false)) ≡ true → LawfulBranch

@@ -17,8 +17,7 @@ use Rattle.layout.specs.declared.opcodes.OperandShape.TheVariants.{Unused}
 use Rattle.components.specs.computed.QuickTests.{kil_may_read_unwritten}
 use Rattle.components.proofs.QuickLaws.{kil_reads}
 use Rattle.faults.specs.Rules.{selectors_differ}
-use Rattle.faults.specs.computed.Profile.{profile_of}
-use Rattle.faults.specs.computed.LawfulTests.{is_lawful_source, repeats_first, is_lawful_kil}
+use Rattle.faults.specs.computed.LawfulTests.{is_lawful_source, repeats_first, is_lawful_kil, usable_of}
 use Rattle.faults.proofs.LawfulOpcodes.{no_edition, is_fragment, in_fragment}
 use Rattle.faults.proofs.LawfulOperands.{is_direct, lawful_direct, no_destination, no_source}
 use Rattle.faults.proofs.LawfulToken.{ToldLawful, together}
@@ -69,8 +68,8 @@ module _ (edition stage : ℕ) (f : Fields) where
       none.defined refl
       (λ s. kil_may_read_unwritten s f ≡ false) (λ s l. kil_reads s f l is (is_direct (usable_in edition stage).readable true 1 f.source1 direct))
 
-  pub lawful_kil : is_lawful_kil (profile_of edition stage) (usable_in edition stage) f ≡ true → LawfulKil
-  unfolding is_lawful_kil
+  pub lawful_kil : is_lawful_kil (usable_in edition stage) f ≡ true → LawfulKil
+  unfolding is_lawful_kil usable_of
   lawful_kil e = go (eqb o kil) refl e
     where
       go : (b : Bool) → eqb o kil ≡ b → cond b (fragment && bare && single && first && repeats_first swizzle) false ≡ true → LawfulKil

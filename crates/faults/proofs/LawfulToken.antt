@@ -31,7 +31,7 @@ use Rattle.faults.specs.Rules.{opcode_too_new, destination_wrong, mask_wrong, op
 use Rattle.faults.specs.computed.Profile.{profile_of, count_in}
 use Rattle.faults.specs.Order.{first_fault, source_rules}
 use Rattle.faults.specs.computed.Faults.{record_fault, own_fault}
-use Rattle.faults.specs.computed.LawfulTests.{is_source, is_lawful_destination, is_lawful_source, is_lawful, is_lawful_matrix, is_lawful_tex}
+use Rattle.faults.specs.computed.LawfulTests.{is_source, is_lawful_destination, is_lawful_source, is_lawful, is_lawful_matrix, is_lawful_tex, usable_of}
 use Rattle.faults.specs.declared.profile.Profile.{Profile}
 use Rattle.faults.proofs.LawfulOpcodes.{LawfulOpcode, no_edition, in_fragment, known_ordinary, ordinary_opcode, matrix_opcode}
 use Rattle.faults.proofs.LawfulOperands.{LawfulDestination, LawfulSource, is_direct, lawful_destination, lawful_direct, lawful_second}
@@ -187,8 +187,8 @@ module _ (edition stage : ℕ) where
         (rw right-sampler)
         (λ s. tex_may_read_unwritten s f ≡ false) (λ s l. tex_reads s f l is (direct_first both))
 
-    pub lawful_tex : is_lawful_tex profile (usable_in edition stage) f ≡ true → LawfulToken tex_may_read_unwritten f
-    unfolding is_lawful_tex
+    pub lawful_tex : is_lawful_tex (usable_in edition stage) f ≡ true → LawfulToken tex_may_read_unwritten f
+    unfolding is_lawful_tex usable_of
     lawful_tex e = go (eqb o tex) refl e
       where
         go : (b : Bool) → eqb o tex ≡ b → cond b (destination && first && eqb stage 1 && not stray && not wrong) false ≡ true → LawfulToken tex_may_read_unwritten f
