@@ -7,7 +7,7 @@ use mathlib.Core.Path.{◌≡◌, refl, ◌∙◌, ap, sym, subst}
 use native.Mathlib.Omega.{arith}
 use lib.Dec.{eqb}
 use borrow.Author.Tests.{ne_eqb, eqb-true, eqb-false, not-true}
-use Rattle.laws.proofs.Every.{left, right}
+use Rattle.laws.proofs.Every.{both}
 use Rattle.layout.specs.Opcodes.{openers, bare_opcodes, is_fragment_only, is_matrix, is_opener, shape_of, flow_of}
 use Rattle.layout.specs.computed.Groups.{is_branch, source_shape}
 use Rattle.layout.specs.Records.{direct_of, token_of}
@@ -74,15 +74,12 @@ module _ (edition stage : ℕ) (f : Fields) where
 
   when_branch : is_branch o ≡ true → (opener : Bool) → is_opener o ≡ opener → tests opener ≡ true → LawfulBranch
   when_branch branch opener is e =
-      let later = not (eqb edition 1) in
-      let none = eqb f.destination 0 in
-      let first = source opener f.source1 in
-      let second = source opener f.source2 in
-      let three = left (later && none && first) second e in
-      let two = left (later && none) first three in
+      let (three, second) = both _ _ e in
+      let (two, first) = both _ _ three in
+      let (later, unwritten) = both _ _ two in
       by_shape branch opener is (branch_shape_lem o branch ∙ ap branch_shape is)
-      (eqb-false edition 1 (not-true (eqb edition 1) (left later none two))) (eqb-true f.destination 0 (right later none two))
-      (lawful_source opener f.source1 (right (later && none) first three)) (lawful_source opener f.source2 (right (later && none && first) second e))
+      (eqb-false edition 1 (not-true (eqb edition 1) later)) (eqb-true f.destination 0 unwritten)
+      (lawful_source opener f.source1 first) (lawful_source opener f.source2 second)
 
   pub lawful_branch : is_lawful_branch (usable_in edition stage) f ≡ true → LawfulBranch
   unfolding is_lawful_branch usable_of

@@ -7,7 +7,7 @@ use mathlib.Core.Path.{◌≡◌, refl, ◌∙◌, ap, sym}
 use native.Mathlib.Omega.{arith}
 use lib.Dec.{eqb}
 use borrow.Author.Tests.{not-false}
-use Rattle.laws.proofs.Every.{left, right}
+use Rattle.laws.proofs.Every.{both}
 use Rattle.layout.specs.Layout as layout
 use Rattle.layout.specs.Layout.{value_of}
 use Rattle.layout.specs.Opcodes.{shape_of, row_count2}
@@ -41,12 +41,13 @@ module _ (edition stage : ℕ) (f : Fields) where
 
   when_indexed : LawfulOpcode edition stage o → (destination && first && second && unswizzled) ≡ true → LawfulToken edition stage indexed_may_read_unwritten f
   when_indexed rules e =
-      let three = left (destination && first && second) unswizzled e in
-      let both = left (destination && first) second three in
-      let into = lawful_destination edition stage o f.destination (left destination first both) in
-      let from = lawful_either edition stage 1 f.source1 (omega arith) Source refl (right destination first both) in
-      let through = lawful_either edition stage (row_count2 o) f.source2 rules.rows (shape_of o).source2 rules.shape.1 (right (destination && first) second three) in
-      by_opcode edition stage f rules into from through (right (destination && first && second) unswizzled e) indexed_may_read_unwritten (λ s l. indexed_reads s f l rules.kind)
+      let (three, plain) = both _ _ e in
+      let (two, used) = both _ _ three in
+      let (writes, reads) = both _ _ two in
+      let into = lawful_destination edition stage o f.destination writes in
+      let from = lawful_either edition stage 1 f.source1 (omega arith) Source refl reads in
+      let through = lawful_either edition stage (row_count2 o) f.source2 rules.rows (shape_of o).source2 rules.shape.1 used in
+      by_opcode edition stage f rules into from through plain indexed_may_read_unwritten (λ s l. indexed_reads s f l rules.kind)
 
   -- the opcode is an ordinary one, or that of a matrix
   opcode_known : (one known : Bool) → eqb (row_count2 o) 1 ≡ one → among_of (ordinary_set edition) o ≡ known → (one && not known) ≡ false → LawfulOpcode edition stage o

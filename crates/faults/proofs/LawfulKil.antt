@@ -4,9 +4,9 @@ use Prim.Native.Nat.{ℕ, ◌<◌}
 use mathlib.Core.Bool.{Bool, true, false, not, cond, ◌&&◌, beq, false≢true}
 use mathlib.Core.Path.{◌≡◌, refl, ◌∙◌, ap, sym}
 use native.Mathlib.Omega.{arith}
-use lib.Dec.{eqb}
+use lib.Dec.{eqb, lit≤}
 use borrow.Author.Tests.{eqb-true}
-use Rattle.laws.proofs.Every.{left, right, same→eq, below}
+use Rattle.laws.proofs.Every.{both, same→eq, below}
 use Rattle.layout.specs.Layout as layout
 use Rattle.layout.specs.Layout.{value_of}
 use Rattle.layout.specs.Opcodes.{kil, is_added, row_of, shape_of_row, shape_of}
@@ -56,15 +56,15 @@ module _ (edition stage : ℕ) (f : Fields) where
   when_kil : o ≡ kil → (fragment && bare && single && first && repeats_first swizzle) ≡ true → LawfulKil
   unfolding row_of shape_of_row
   when_kil is e =
-      let four = left (fragment && bare && single && first) (repeats_first swizzle) e in
-      let three = left (fragment && bare && single) first four in
-      let two = left (fragment && bare) single three in
-      let direct = right (fragment && bare && single) first four in
-      let into = no_destination edition stage o f.destination (eqb-true f.destination 0 (right fragment bare two)) in
-      let from = lawful_direct edition stage 1 f.source1 (omega arith) direct in
-      let none = no_source edition stage 1 f.source2 (eqb-true f.source2 0 (right (fragment && bare) single three)) in
-      together edition stage f Unused (ap shape_of is) into from (ap is_branch is) (no_edition edition stage o (ap is_added is)) (in_fragment edition stage o (left fragment bare two))
-      (right_swizzle is (right (fragment && bare && single && first) (repeats_first swizzle) e))
+      let (four, agree) = both _ _ e in
+      let (three, direct) = both _ _ four in
+      let (two, no-second) = both _ _ three in
+      let (for-stage, unwritten) = both _ _ two in
+      let into = no_destination edition stage o f.destination (eqb-true f.destination 0 unwritten) in
+      let from = lawful_direct edition stage 1 f.source1 (lit≤ tt) direct in
+      let none = no_source edition stage 1 f.source2 (eqb-true f.source2 0 no-second) in
+      together edition stage f Unused (ap shape_of is) into from (ap is_branch is) (no_edition edition stage o (ap is_added is)) (in_fragment edition stage o for-stage)
+      (right_swizzle is agree)
       none.defined refl
       (λ s. kil_may_read_unwritten s f ≡ false) (λ s l. kil_reads s f l is (is_direct (usable_in edition stage).readable true 1 f.source1 direct))
 

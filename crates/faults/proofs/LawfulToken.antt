@@ -7,7 +7,7 @@ use mathlib.Core.Path.{◌≡◌, refl, ◌∙◌, ap, sym, subst}
 use native.Mathlib.Omega.{arith}
 use lib.Dec.{eqb}
 use borrow.Author.Tests.{eqb-true, not-true}
-use Rattle.laws.proofs.Every.{left, right}
+use Rattle.laws.proofs.Every.{both}
 use Rattle.bytecode.specs.Decode.{no_refusal}
 use Rattle.bytecode.specs.computed.CleanFields.{is_clean}
 use Rattle.bytecode.proofs.DecodeLaws.{Clean, is_clean_lem}
@@ -108,13 +108,13 @@ module _ (edition stage : ℕ) where
 
     module _ (e : (destination && first) ≡ true) where
       into : LawfulDestination edition stage true o f.destination
-      into = lawful_destination edition stage o f.destination (left destination first e)
+      into = lawful_destination edition stage o f.destination (both _ _ e).0
 
       from : LawfulSource edition stage Source 1 f.source1
-      from = lawful_direct edition stage 1 f.source1 (omega arith) (right destination first e)
+      from = lawful_direct edition stage 1 f.source1 (omega arith) (both _ _ e).1
 
       direct_first : is_indexed f.source1 ≡ false
-      direct_first = is_direct (usable_in edition stage).readable true 1 f.source1 (right destination first e)
+      direct_first = is_direct (usable_in edition stage).readable true 1 f.source1 (both _ _ e).1
 
     -- ---- with an ordinary opcode
 
@@ -126,11 +126,10 @@ module _ (edition stage : ℕ) where
         let rules = ordinary_opcode edition stage o h in
         let is = known_ordinary edition stage o h in
         let row = one_row o (outside_matrices o (is_ordinary_lem o is).matrix) in
-        let both = left (destination && first) second e in
-        let used = right (destination && first) second e in
+        let (two, used) = both _ _ e in
         let through = subst (λ n. LawfulSource edition stage (shape_of o).source2 n f.source2) (sym row) (lawful_second edition stage (shape_of o).source2 f.source2 rules.shape.1 used) in
-        by_opcode rules (into both) (from both) through (ap (λ n. eqb n 1 || eqb (value_of layout.swizzle f.source2) 0xe4) row) may_read_unwritten
-        (λ s l. ordinary_reads s f l is (direct_first both, is_direct (usable_in edition stage).readable (is_source (shape_of o).source2) 1 f.source2 used))
+        by_opcode rules (into two) (from two) through (ap (λ n. eqb n 1 || eqb (value_of layout.swizzle f.source2) 0xe4) row) may_read_unwritten
+        (λ s l. ordinary_reads s f l is (direct_first two, is_direct (usable_in edition stage).readable (is_source (shape_of o).source2) 1 f.source2 used))
 
     pub lawful : is_lawful (usable_in edition stage) f ≡ true → LawfulToken may_read_unwritten f
     unfolding is_lawful
@@ -151,12 +150,11 @@ module _ (edition stage : ℕ) where
     when_matrix : is_matrix o ≡ true → (destination && first && matrix && unswizzled) ≡ true → LawfulToken matrix_may_read_unwritten f
     when_matrix m e =
         let rules = matrix_opcode edition stage o m in
-        let three = left (destination && first && matrix) unswizzled e in
-        let both = left (destination && first) matrix three in
-        let used = right (destination && first) matrix three in
+        let (three, plain) = both _ _ e in
+        let (two, used) = both _ _ three in
         let through = subst (λ shape. LawfulSource edition stage shape.source2 (row_count2 o) f.source2) (sym (matrix_shape o m)) (lawful_direct edition stage (row_count2 o) f.source2 rules.rows used) in
-        by_opcode rules (into both) (from both) through (ap (λ b. eqb (row_count2 o) 1 || b) (right (destination && first && matrix) unswizzled e) ∙ or-true (eqb (row_count2 o) 1)) matrix_may_read_unwritten
-        (λ s l. matrix_reads s f l m (direct_first both, is_direct (usable_in edition stage).readable true (row_count2 o) f.source2 used))
+        by_opcode rules (into two) (from two) through (ap (λ b. eqb (row_count2 o) 1 || b) plain ∙ or-true (eqb (row_count2 o) 1)) matrix_may_read_unwritten
+        (λ s l. matrix_reads s f l m (direct_first two, is_direct (usable_in edition stage).readable true (row_count2 o) f.source2 used))
 
     pub lawful_matrix : is_lawful_matrix (usable_in edition stage) f ≡ true → LawfulToken matrix_may_read_unwritten f
     unfolding is_lawful_matrix
@@ -177,15 +175,15 @@ module _ (edition stage : ℕ) where
     when_tex : o ≡ tex → (destination && first && eqb stage 1 && not stray && not wrong) ≡ true → LawfulToken tex_may_read_unwritten f
     unfolding row_of shape_of_row
     when_tex is e =
-        let four = left (destination && first && eqb stage 1 && not stray) (not wrong) e in
-        let three = left (destination && first && eqb stage 1) (not stray) four in
-        let both = left (destination && first) (eqb stage 1) three in
-        let right-sampler = not-true wrong (right (destination && first && eqb stage 1 && not stray) (not wrong) e) in
-        together Sampler (ap shape_of is) (into both) (from both) (ap is_branch is) (no_edition edition stage o (ap is_added is)) (in_fragment edition stage o (right (destination && first) (eqb stage 1) three))
+        let (four, sampler) = both _ _ e in
+        let (three, defined) = both _ _ four in
+        let (two, fragment) = both _ _ three in
+        let right-sampler = not-true wrong sampler in
+        together Sampler (ap shape_of is) (into two) (from two) (ap is_branch is) (no_edition edition stage o (ap is_added is)) (in_fragment edition stage o fragment)
         (ap (λ o. selectors_differ o (direct_of f.source1).swizzle) is)
-        (not-true stray (right (destination && first && eqb stage 1) (not stray) four))
+        (not-true stray defined)
         (rw right-sampler)
-        (λ s. tex_may_read_unwritten s f ≡ false) (λ s l. tex_reads s f l is (direct_first both))
+        (λ s. tex_may_read_unwritten s f ≡ false) (λ s l. tex_reads s f l is (direct_first two))
 
     pub lawful_tex : is_lawful_tex (usable_in edition stage) f ≡ true → LawfulToken tex_may_read_unwritten f
     unfolding is_lawful_tex usable_of
