@@ -1,12 +1,12 @@
 -- The token of a branch that the test tells as lawful has no fault of fields and none of faults 10 to 19, and reads what its fields tell.
 -- Assumes nothing.
 use Prim.Native.Nat.{ℕ}
-use mathlib.Core.Bool.{Bool, true, false, not, cond, ◌&&◌, false≢true}
+use mathlib.Core.Bool.{Bool, true, false, not, cond, ◌&&◌}
 use mathlib.Core.List.{◌++◌}
 use mathlib.Core.Path.{◌≡◌, refl, ◌∙◌, ap, sym, subst}
 use native.Mathlib.Omega.{arith}
 use lib.Dec.{eqb}
-use borrow.Author.Tests.{ne_eqb, eqb-true, eqb-false, not-true}
+use borrow.Author.Tests.{ne_eqb, eqb-true, eqb-false, not-true, not-false}
 use Rattle.laws.proofs.Every.{both}
 use Rattle.layout.specs.Opcodes.{openers, bare_opcodes, is_fragment_only, is_matrix, is_opener, shape_of, flow_of}
 use Rattle.layout.specs.computed.Groups.{is_branch, source_shape}
@@ -25,7 +25,7 @@ use Rattle.components.specs.declared.written.Written.{Written}
 use Rattle.components.proofs.QuickLaws.{opener_reads}
 use Rattle.faults.specs.Rules.{opcode_too_new, matrix_swizzled}
 use Rattle.faults.specs.computed.LawfulTests.{is_lawful_either, is_lawful_branch, usable_of}
-use Rattle.faults.proofs.LawfulOpcodes.{no_stage, no_selectors}
+use Rattle.faults.proofs.LawfulOpcodes.{if_no, no_stage, no_selectors}
 use Rattle.faults.proofs.LawfulOperands.{LawfulSource, no_destination, no_source, lawful_either}
 use Rattle.faults.proofs.LawfulToken.{ToldLawful, together}
 use Rattle.faults.proofs.UsableCounts.{usable_in}
@@ -83,9 +83,8 @@ module _ (edition stage : ℕ) (f : Fields) where
 
   pub lawful_branch : is_lawful_branch (usable_in edition stage) f ≡ true → LawfulBranch
   unfolding is_lawful_branch usable_of
-  lawful_branch e = go (is_branch o) (is_opener o) refl refl e
+  lawful_branch e = let (h, k) = if_no _ _ e in go (not-false _ h) (is_opener o) refl k
     where
-      go : (b opener : Bool) → is_branch o ≡ b → is_opener o ≡ opener → cond (not b) false (cond opener (tests true) (tests false)) ≡ true → LawfulBranch
-      go true true l is k = when_branch l true is k
-      go true false l is k = when_branch l false is k
-      go false opener l is k = absurd (false≢true k)
+      go : is_branch o ≡ true → (opener : Bool) → is_opener o ≡ opener → cond opener (tests true) (tests false) ≡ true → LawfulBranch
+      go branch true is k = when_branch branch true is k
+      go branch false is k = when_branch branch false is k

@@ -1,7 +1,7 @@
 -- A kil that the test tells as lawful has no fault of fields and none of faults 10 to 19, and reads what its fields tell.
 -- Assumes nothing.
 use Prim.Native.Nat.{ℕ, ◌<◌}
-use mathlib.Core.Bool.{Bool, true, false, not, cond, ◌&&◌, beq, false≢true}
+use mathlib.Core.Bool.{Bool, true, false, not, ◌&&◌, beq}
 use mathlib.Core.Path.{◌≡◌, refl, ◌∙◌, ap, sym}
 use native.Mathlib.Omega.{arith}
 use lib.Dec.{eqb, lit≤}
@@ -18,7 +18,7 @@ use Rattle.components.specs.computed.QuickTests.{kil_may_read_unwritten}
 use Rattle.components.proofs.QuickLaws.{kil_reads}
 use Rattle.faults.specs.Rules.{selectors_differ}
 use Rattle.faults.specs.computed.LawfulTests.{is_lawful_source, repeats_first, is_lawful_kil, usable_of}
-use Rattle.faults.proofs.LawfulOpcodes.{no_edition, is_fragment, in_fragment}
+use Rattle.faults.proofs.LawfulOpcodes.{if_yes, no_edition, is_fragment, in_fragment}
 use Rattle.faults.proofs.LawfulOperands.{is_direct, lawful_direct, no_destination, no_source}
 use Rattle.faults.proofs.LawfulToken.{ToldLawful, together}
 use Rattle.faults.proofs.UsableCounts.{usable_in}
@@ -70,8 +70,4 @@ module _ (edition stage : ℕ) (f : Fields) where
 
   pub lawful_kil : is_lawful_kil (usable_in edition stage) f ≡ true → LawfulKil
   unfolding is_lawful_kil usable_of
-  lawful_kil e = go (eqb o kil) refl e
-    where
-      go : (b : Bool) → eqb o kil ≡ b → cond b (fragment && bare && single && first && repeats_first swizzle) false ≡ true → LawfulKil
-      go true l k = when_kil (eqb-true o kil l) k
-      go false l k = absurd (false≢true k)
+  lawful_kil e = let (h, k) = if_yes _ _ e in when_kil (eqb-true o kil h) k

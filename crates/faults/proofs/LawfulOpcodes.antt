@@ -1,7 +1,7 @@
 -- Ordinary opcodes and matrices: which rules they have nothing to do with.
 -- Assumes nothing.
 use Prim.Native.Nat.{ℕ, ◌≤◌}
-use mathlib.Core.Bool.{Bool, true, false, not, ◌&&◌, ◌||◌, and-false, or-true}
+use mathlib.Core.Bool.{Bool, true, false, not, cond, false≢true, ◌&&◌, ◌||◌, and-false, or-true}
 use mathlib.Core.List.{[], ◌∷◌}
 use mathlib.Core.Path.{◌≡◌, refl, ◌∙◌, ap, sym, subst}
 use native.Mathlib.Omega.{arith}
@@ -15,6 +15,15 @@ use Rattle.layout.specs.Swizzles.{selectors_agree}
 use Rattle.layout.proofs.OpcodeLists.{each, none_of, FirstShape, is_ordinary_lem, ordinary_shape, matrix_shape}
 use Rattle.layout.proofs.OpcodeSets.{in_ordinary, one_row, outside_matrices}
 use Rattle.faults.specs.Rules.{opcode_too_new, opcode_not_for_stage, selectors_differ, matrix_swizzled}
+
+-- a test that is asked only where another one says yes, or only where it says no
+pub if_yes : (b x : Bool) → cond b x false ≡ true → (b ≡ true) × (x ≡ true)
+if_yes true x e = (refl, e)
+if_yes false x e = absurd (false≢true e)
+
+pub if_no : (b x : Bool) → cond b false x ≡ true → (b ≡ false) × (x ≡ true)
+if_no true x e = absurd (false≢true e)
+if_no false x e = (refl, e)
 
 -- what is known of an ordinary opcode, and of a matrix with a source 2 that is not swizzled
 pub record LawfulOpcode (edition stage o : ℕ) : Type 0 where

@@ -1,7 +1,7 @@
 -- A lawful token, as the tests tell it, has no fault of fields and none of faults 10 to 19, and reads what its fields tell.
 -- Assumes nothing.
 use Prim.Native.Nat.{ℕ}
-use mathlib.Core.Bool.{Bool, true, false, not, cond, ◌&&◌, ◌||◌, or-true, false≢true}
+use mathlib.Core.Bool.{Bool, true, false, not, ◌&&◌, ◌||◌, or-true}
 use mathlib.Core.Option.{none}
 use mathlib.Core.Path.{◌≡◌, refl, ◌∙◌, ap, sym, subst}
 use native.Mathlib.Omega.{arith}
@@ -33,9 +33,9 @@ use Rattle.faults.specs.Order.{first_fault, source_rules}
 use Rattle.faults.specs.computed.Faults.{record_fault, own_fault}
 use Rattle.faults.specs.computed.LawfulTests.{is_source, is_lawful_destination, is_lawful_source, is_lawful, is_lawful_matrix, is_lawful_tex, usable_of}
 use Rattle.faults.specs.declared.profile.Profile.{Profile}
-use Rattle.faults.proofs.LawfulOpcodes.{LawfulOpcode, no_edition, in_fragment, known_ordinary, ordinary_opcode, matrix_opcode}
+use Rattle.faults.proofs.LawfulOpcodes.{if_yes, if_no, LawfulOpcode, no_edition, in_fragment, known_ordinary, ordinary_opcode, matrix_opcode}
 use Rattle.faults.proofs.LawfulOperands.{LawfulDestination, LawfulSource, is_direct, lawful_destination, lawful_direct, lawful_second}
-use Rattle.faults.proofs.UsableCounts.{usable_in, usable_opcodes}
+use Rattle.faults.proofs.UsableCounts.{usable_in}
 use Rattle.faults.proofs.FaultLaws.{first_append}
 
 -- a token has none of faults 10 to 19, wherever it stands
@@ -132,12 +132,8 @@ module _ (edition stage : ℕ) where
         (λ s l. ordinary_reads s f l is (direct_first two, is_direct (usable_in edition stage).readable (is_source (shape_of o).source2) 1 f.source2 used))
 
     pub lawful : is_lawful (usable_in edition stage) f ≡ true → LawfulToken may_read_unwritten f
-    unfolding is_lawful
-    lawful e = go (among_of (ordinary_set edition) o) refl (ap (λ set. cond (among_of set o) (destination && first && second) false) (sym (usable_opcodes edition stage)) ∙ e)
-      where
-        go : (b : Bool) → among_of (ordinary_set edition) o ≡ b → cond b (destination && first && second) false ≡ true → LawfulToken may_read_unwritten f
-        go true l k = when_ordinary l k
-        go false l k = absurd (false≢true k)
+    unfolding is_lawful usable_of
+    lawful e = let (h, k) = if_yes _ _ e in when_ordinary h k
 
     -- ---- with a matrix
 
@@ -158,11 +154,7 @@ module _ (edition stage : ℕ) where
 
     pub lawful_matrix : is_lawful_matrix (usable_in edition stage) f ≡ true → LawfulToken matrix_may_read_unwritten f
     unfolding is_lawful_matrix
-    lawful_matrix e = go (eqb (row_count2 o) 1) refl e
-      where
-        go : (b : Bool) → eqb (row_count2 o) 1 ≡ b → cond b false (destination && first && matrix && unswizzled) ≡ true → LawfulToken matrix_may_read_unwritten f
-        go true l k = absurd (false≢true k)
-        go false l k = when_matrix (many_rows o l) k
+    lawful_matrix e = let (h, k) = if_no _ _ e in when_matrix (many_rows o h) k
 
     -- ---- with tex
 
@@ -187,8 +179,4 @@ module _ (edition stage : ℕ) where
 
     pub lawful_tex : is_lawful_tex (usable_in edition stage) f ≡ true → LawfulToken tex_may_read_unwritten f
     unfolding is_lawful_tex usable_of
-    lawful_tex e = go (eqb o tex) refl e
-      where
-        go : (b : Bool) → eqb o tex ≡ b → cond b (destination && first && eqb stage 1 && not stray && not wrong) false ≡ true → LawfulToken tex_may_read_unwritten f
-        go true l k = when_tex (eqb-true o tex l) k
-        go false l k = absurd (false≢true k)
+    lawful_tex e = let (h, k) = if_yes _ _ e in when_tex (eqb-true o tex h) k

@@ -9,7 +9,6 @@ use native.Mathlib.Omega.{arith}
 use lib.Dec.{T, eqb, ltb, eqb→eq}
 use Rattle.laws.specs.computed.Tests.{every}
 use Rattle.laws.proofs.Every.{below}
-use Rattle.layout.specs.computed.Sets.{ordinary_set}
 use Rattle.registers.specs.Counts.{count_of}
 use Rattle.registers.specs.Uses.{is_readable, is_writable}
 use Rattle.registers.proofs.Outside.{outside_edition, outside_stage}
@@ -21,15 +20,6 @@ use Rattle.faults.specs.declared.profile.Profile.{Profile}
 
 abbrev pub usable_in : ℕ → ℕ → Usable
 usable_in edition stage = usable_of (profile_of edition stage)
-
--- the profile and the opcodes are those of the edition and the stage
-pub usable_profile : (edition stage : ℕ) → (usable_in edition stage).profile ≡ profile_of edition stage
-unfolding usable_of
-usable_profile edition stage = refl
-
-pub usable_opcodes : (edition stage : ℕ) → (usable_in edition stage).opcodes ≡ ordinary_set edition
-unfolding usable_of
-usable_opcodes edition stage = refl
 
 -- a kind that a stage does not use counts 0
 abbrev pub if_used : (ℕ → ℕ → Bool) → ℕ → ℕ → ℕ → ℕ
