@@ -5,7 +5,6 @@ ghost use Rattle.layout.specs.Opcodes.{row_count2};
 ghost use Rattle.components.specs.Reads.{mask_of, dimension_of};
 ghost use Rattle.components.specs.computed.Access.{lacks_access, lacks_some, selected_access, direct_access, index_access, access_through, components1_of, components2_of, access1_of, access2_of};
 
-use crate::written;
 use crate::written::Written;
 use layout::fields::Fields;
 use layout::opcodes::{OperandShape, Shape};
@@ -44,7 +43,7 @@ fn direct_unwritten1(current: Written, shape: Shape, f: Fields) -> bool
     let selectors = selection::selectors1(f.opcode, mask, dimension_of(shape2, f.source2));
     let source = layout::unpack_direct(f.source1);
     let components = selection::components_read(source.swizzle, selectors);
-    written::lacks(current, source.number, 1, components)
+    current.lacks(source.number, 1, components)
 }
 
 // The same of source 2.
@@ -78,7 +77,7 @@ fn direct_unwritten2(current: Written, shape: Shape, f: Fields) -> bool
     let source = layout::unpack_direct(f.source2);
     let mask = mask_of(shape.destination, f.destination);
     let components = selection::components2(f.opcode, mask, source.swizzle);
-    written::lacks(current, source.number, rows, components)
+    current.lacks(source.number, rows, components)
 }
 
 // Whether a direct source is a temporary register that lacks a component which the selectors name.
@@ -87,7 +86,7 @@ pub(crate) fn direct_lacks(current: Written, field: u64, selectors: u8) -> bool
 {
     let source = layout::unpack_direct(field);
     let components = selection::named(source.swizzle, selectors);
-    (source.kind == 2) & written::lacks(current, source.number, 1, components)
+    (source.kind == 2) & current.lacks(source.number, 1, components)
 }
 
 // Whether a direct source is a temporary register and one of the rows from it lacks a component, read or not. If none does, which components
@@ -96,7 +95,7 @@ pub(crate) fn lacks_some(current: Written, rows: u8, field: u64) -> bool
     ensures { result ≡ lacks_some current rows (direct_of field) }
 {
     let source = layout::unpack_direct(field);
-    (source.kind == 2) & written::lacks(current, source.number, rows, selection::ALL_FOUR)
+    (source.kind == 2) & current.lacks(source.number, rows, selection::ALL_FOUR)
 }
 
 // An indexed source reads one component of its index register.
@@ -105,7 +104,7 @@ pub(crate) fn index_unwritten(current: Written, field: u64) -> bool
 {
     let source = layout::unpack_indexed(field);
     let component = selection::chosen(1, source.component);
-    (source.index_kind == 2) & written::lacks(current, source.number, 1, component)
+    (source.index_kind == 2) & current.lacks(source.number, 1, component)
 }
 
 fn mask_of(used: bool, field: u64) -> u8
