@@ -1,7 +1,6 @@
 // Whether a token reads what is not written, from its fields and what its opcode holds.
-ghost use Rattle.std.specs.Prelude.{◌≡◌, true, false};
-ghost use Rattle.layout.specs.Opcodes.{row_count2};
-ghost use Rattle.layout.specs.Records.{direct_of, indexed_of, is_indexed, token_of};
+ghost use Rattle.std.specs.Prelude.{◌≡◌};
+ghost use Rattle.layout.specs.Records.{direct_of, indexed_of, token_of};
 ghost use Rattle.components.specs.Reads.{mask_of, dimension_of};
 ghost use Rattle.components.specs.computed.Access.{lacks_access, lacks_some, selected_access, index_access, access_of, shape_at, field_at, rows_at, components_at, direct_access_of};
 
@@ -17,21 +16,24 @@ pub enum Source {
     Second,
 }
 
-// Whether a token reads through a source a temporary component that is not written.
+// Whether a token reads through a source a temporary component that is not written. Callers name the source, so this is laid out for each
+// where it is called; as a call it takes twice as many instructions.
 #[tactic(auto, unfolding(layout::specs::Records::token_of))]
+#[inline(always)]
 pub fn reads_unwritten(current: Written, raw: RawToken, source: Source) -> bool
     ensures { result ≡ lacks_access current (access_of source (token_of raw.shape raw.fields)) }
 {
+    let field = source.field(raw.fields);
     match source.shape(raw.shape) {
-        OperandShape::Source => current.lacks_source(source.field(raw.fields), || {
-            direct_unwritten(current, raw, source)
-        }),
+        OperandShape::Source if layout::is_indexed(field) => current.lacks_index(field),
+        OperandShape::Source => direct_unwritten(current, raw, source),
         OperandShape::Unused | OperandShape::Sampler => false,
     }
 }
 
 // What the opcode reads is asked only where the register is a temporary one, and lacks something.
 #[tactic(auto, unfolding(layout::specs::Records::token_of))]
+#[inline(always)]
 fn direct_unwritten(current: Written, raw: RawToken, source: Source) -> bool
     ensures { result ≡ lacks_access current (direct_access_of source raw.shape raw.fields) }
 {
@@ -115,20 +117,8 @@ fn dimension_of(raw: RawToken) -> u8
 }
 
 impl Written {
-    // What a source field reads: of an indexed source its index register is asked for, of a direct one what the caller asks.
-    pub(crate) fn lacks_source<F: FnOnce() -> bool>(self, field: u64, direct: F) -> bool
-        requires { F.IsAlwaysCallable direct }
-        ensures if_indexed { is_indexed field ≡ true → result ≡ lacks_access self (index_access (indexed_of field)) }
-        ensures if_direct { is_indexed field ≡ false → F.post direct result }
-    {
-        if layout::is_indexed(field) {
-            return self.lacks_index(field);
-        }
-        direct()
-    }
-
     // An indexed source reads one component of its index register.
-    fn lacks_index(self, field: u64) -> bool
+    pub(crate) fn lacks_index(self, field: u64) -> bool
         ensures { result ≡ lacks_access self (index_access (indexed_of field)) }
     {
         let source = layout::unpack_indexed(field);

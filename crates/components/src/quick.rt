@@ -1,7 +1,9 @@
 // Quick tests for lawful tokens, which have none of faults 9 to 19: whether such a token may read what is not written. Each says yes of every
 // token that does. Those of matrices and indexed sources ask for all four components, and so may say yes of one that does not.
 // Each takes a set and a token's fields as they are: a struct of both would be made for one call and taken apart in it.
-ghost use Rattle.std.specs.Prelude.{◌≡◌};
+ghost use Rattle.std.specs.Prelude.{◌≡◌, true, false};
+ghost use Rattle.layout.specs.Records.{is_indexed, indexed_of};
+ghost use Rattle.components.specs.computed.Access.{lacks_access, index_access};
 ghost use Rattle.components.specs.computed.QuickTests.{may_read_unwritten, matrix_may_read_unwritten, tex_may_read_unwritten, may_lack, indexed_may_read_unwritten, opener_lacks, opener_may_read_unwritten, kil_may_read_unwritten};
 ghost use Rattle.components.specs.computed.ReadsWritten.{OrdinaryReads, MatrixReads, TexReads, IndexedReads, OpenerReads, KilReads};
 
@@ -53,7 +55,19 @@ pub fn indexed_may_read_unwritten(current: Written, f: Fields) -> bool
 fn may_lack(current: Written, rows: u8, field: u64) -> bool
     ensures { result ≡ may_lack current rows field }
 {
-    current.lacks_source(field, || current.lacks_some(rows, field))
+    by_index_or(current, field, || current.lacks_some(rows, field))
+}
+
+// An indexed source is asked for its index register, and a direct one by the test.
+fn by_index_or<F: FnOnce() -> bool>(current: Written, field: u64, direct: F) -> bool
+    requires { F.IsAlwaysCallable direct }
+    ensures if_indexed { is_indexed field ≡ true → result ≡ lacks_access current (index_access (indexed_of field)) }
+    ensures if_direct { is_indexed field ≡ false → F.post direct result }
+{
+    if layout::is_indexed(field) {
+        return current.lacks_index(field);
+    }
+    direct()
 }
 
 // The same of an opener, each of whose sources may be indexed; a direct one is read by all four selectors.
@@ -67,7 +81,9 @@ pub fn opener_may_read_unwritten(current: Written, f: Fields) -> bool
 fn opener_lacks(current: Written, field: u64) -> bool
     ensures { result ≡ opener_lacks current field }
 {
-    current.lacks_source(field, || current.lacks_direct(field, selection::ALL_FOUR))
+    by_index_or(current, field, || {
+        current.lacks_direct(field, selection::ALL_FOUR)
+    })
 }
 
 // The same of kil, which reads by the first selector of source 1.

@@ -3,13 +3,16 @@ ghost use Rattle.std.specs.Prelude.{cond, ◌≡◌, ◌*◌, ◌%◌, ◌^◌};
 ghost use Rattle.components.specs.computed.Written.{half_of, join_of, mark_of, lacks_row, lacks_of};
 
 // Four bits for each register, its lowest for x: registers 0 to 15 in the low half, 16 to 31 in the high one.
-#[derive(Clone, Copy, Debug, Default, PartialEq, Eq)]
+#[derive(Clone, Copy, Debug, PartialEq, Eq)]
 pub struct Written {
     pub low: u64,
     pub high: u64,
 }
 
 impl Written {
+    // Nothing is written.
+    pub const EMPTY: Written = Written { low: 0, high: 0 };
+
     // The same set, copied half by half. Copied at once, as sixteen bytes, it would often be read back before its two halves, which are stored
     // one by one, have arrived, and the processor would wait: measured, so this takes the place of a plain copy where the check's loop stores.
     pub fn by_halves(self) -> Written
