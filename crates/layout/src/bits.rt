@@ -6,7 +6,7 @@ ghost use Rattle.layout.specs.Layout.{value_at, destination_bits, operand_bits, 
 use crate::opcodes::OperandShape;
 
 // Where a value stands in its field: its first bit and how many bits it has.
-#[derive(Clone, Copy, Debug, PartialEq, Eq)]
+#[derive(Clone, Copy)]
 pub struct Bits {
     pub first: u32,
     pub width: u32,

@@ -7,7 +7,7 @@ use crate::opcodes::Shape;
 use crate::record::Token;
 use crate::{opcodes, unpack};
 
-#[derive(Clone, Copy, Debug, PartialEq, Eq)]
+#[derive(Clone, Copy)]
 pub struct Fields {
     pub opcode: u32,
     pub destination: u64,
@@ -16,7 +16,7 @@ pub struct Fields {
 }
 
 // A token whose record is not made yet: its fields, and what each of them holds.
-#[derive(Clone, Copy, Debug, PartialEq, Eq)]
+#[derive(Clone, Copy)]
 pub struct RawToken {
     pub shape: Shape,
     pub fields: Fields,

@@ -12,8 +12,9 @@ pub enum OperandShape {
     Sampler,
 }
 
-// What a token with some opcode holds. An opcode that is not listed holds nothing.
-#[derive(Clone, Copy, Debug, PartialEq, Eq)]
+// What a token with some opcode holds. An opcode that is not listed holds nothing: it too has a shape (`unlisted` in specs/Opcodes), so `listed`
+// stands among the fields, and there is no Option round them.
+#[derive(Clone, Copy)]
 pub struct Shape {
     pub listed: bool,
     pub destination: bool,
@@ -30,6 +31,7 @@ pub enum Flow {
     Eif,
 }
 
+// Opcodes that a rule names. They are numbers and no enum, since the functions below answer every number that can stand in a token.
 pub const NRM: u32 = 0x0e;
 
 pub const CRS: u32 = 0x11;

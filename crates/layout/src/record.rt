@@ -1,7 +1,7 @@
 // A token record: what the 24 bytes of a token say. A `kind` is a register type, 0 to 6 in the format.
 
 // A register that is written, and the components that are: bit 0 of the mask is x, bit 3 is w.
-#[derive(Clone, Copy, Debug, PartialEq, Eq)]
+#[derive(Clone, Copy)]
 pub struct MaskedRegister {
     pub number: u16,
     pub mask: u8,
@@ -9,7 +9,7 @@ pub struct MaskedRegister {
 }
 
 // A source with D = 0. The format ignores the index kind and the component; the record keeps them.
-#[derive(Clone, Copy, Debug, PartialEq, Eq)]
+#[derive(Clone, Copy)]
 pub struct DirectSource {
     pub number: u16,
     pub offset: u8,
@@ -20,8 +20,9 @@ pub struct DirectSource {
 }
 
 // A source with D = 1: the register of `kind` whose number is `offset` more than a component of the index register, whose own kind is
-// `index_kind` and whose number is `number`.
-#[derive(Clone, Copy, Debug, PartialEq, Eq)]
+// `index_kind` and whose number is `number`. It has a direct source's fields and a type of its own, so that no rule on one of them can be asked
+// of the other.
+#[derive(Clone, Copy)]
 pub struct IndexedSource {
     pub number: u16,
     pub offset: u8,
@@ -32,7 +33,7 @@ pub struct IndexedSource {
 }
 
 // The second source of tex. The bias counts eighths of a level of detail.
-#[derive(Clone, Copy, Debug, PartialEq, Eq)]
+#[derive(Clone, Copy)]
 pub struct Sampler {
     pub number: u16,
     pub bias: i8,
@@ -44,7 +45,7 @@ pub struct Sampler {
     pub filter: u8,
 }
 
-#[derive(Clone, Copy, Debug, PartialEq, Eq)]
+#[derive(Clone, Copy)]
 pub enum Operand {
     Unused,
     Direct(DirectSource),
@@ -52,7 +53,7 @@ pub enum Operand {
     Sampler(Sampler),
 }
 
-#[derive(Clone, Copy, Debug, PartialEq, Eq)]
+#[derive(Clone, Copy)]
 pub struct Token {
     pub opcode: u32,
     pub destination: Option<MaskedRegister>,

@@ -108,6 +108,7 @@ pub fn components_read(swizzle: u8, selectors: u8) -> u8
 }
 
 // The same, selector by selector.
+#[tactic(auto, unfolding(crate::specs::computed::Sets::named_set))]
 pub fn named(swizzle: u8, selectors: u8) -> u8
     ensures { result ≡ named_set swizzle selectors }
 {
