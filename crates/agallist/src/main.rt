@@ -5,7 +5,6 @@ ghost use Rattle.std.specs.Prelude.{◌≤◌, length, OnOk, IfSome};
 ghost use Rattle.std.specs.Io.KnownBytes.{Appends};
 ghost use Rattle.report.specs.Text.{text_of};
 
-use listing::answers::Printed;
 use std::alloc::Global;
 use std::io;
 use std::io::{Read, Write};
@@ -31,7 +30,7 @@ fn put<W: Write>(out: &mut W, input: &[u8], buffer: &mut [u8]) -> io::Result<()>
     ensures { OnOk result (Appends (W.contents out.old) (W.contents out.new) (text_of input.now)) }
 {
     match report::report(input, buffer) {
-        Printed::Length(length) => out.write_all(&buffer[..length]),
-        Printed::Refused(_) => Ok(()),
+        Ok(length) => out.write_all(&buffer[..length]),
+        Err(_) => Ok(()),
     }
 }

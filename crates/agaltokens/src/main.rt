@@ -2,8 +2,7 @@
 // answers: to its opening, and to each read. The reader needs no edition and does not judge the program.
 #![tactic(auto)]
 
-use bytecode::answers::{Decoded, Refusal};
-use reader::answers::Opening;
+use bytecode::answers::Refusal;
 use std::io;
 use std::io::{BufWriter, Read, Write};
 
@@ -31,16 +30,16 @@ fn answer<W: Write>(out: &mut W, input: &[u8]) -> io::Result<()> {
 fn read_all<W: Write>(out: &mut W, program: &[u8]) -> io::Result<()> {
     let opened = reader::open(program);
     match opened.answer {
-        Opening::Ready => writeln!(out, "open")?,
-        Opening::Refused(r) => refused(out, r)?,
+        Ok(()) => writeln!(out, "open")?,
+        Err(r) => refused(out, r)?,
     }
     let mut reader = opened.reader;
     for _ in 0..program.len() / 24 + 2 {
         let place = reader.place;
         let read = reader::read(reader);
         match read.answer {
-            Decoded::Token(t) => token(out, place, t.opcode)?,
-            Decoded::Refused(r) => refused(out, r)?,
+            Ok(t) => token(out, place, t.opcode)?,
+            Err(r) => refused(out, r)?,
         }
         reader = read.reader;
     }

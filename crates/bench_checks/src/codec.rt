@@ -1,15 +1,14 @@
 // Cases of decode, encode and bias.
 use crate::print;
-use bytecode::answers::{Decoded, Encoded};
-use layout::record::{Destination, Operand, Sampler, Token};
+use layout::record::{MaskedRegister, Operand, Sampler, Token};
 use std::io;
 use std::io::Write;
 
 // Decodes bytes and prints the record, and whether it encodes to the same bytes.
 pub fn decoded<W: Write>(out: &mut W, bytes: &[u8]) -> io::Result<()> {
     match bytecode::decode(bytes) {
-        Decoded::Refused(r) => print::refusal(out, r),
-        Decoded::Token(t) => {
+        Err(r) => print::refusal(out, r),
+        Ok(t) => {
             record(out, t)?;
             again(out, t, bytes)
         }
@@ -23,10 +22,10 @@ fn record<W: Write>(out: &mut W, t: Token) -> io::Result<()> {
     operand(out, t.source2)
 }
 
-fn destination<W: Write>(out: &mut W, d: Destination) -> io::Result<()> {
+fn destination<W: Write>(out: &mut W, d: Option<MaskedRegister>) -> io::Result<()> {
     match d {
-        Destination::Unused => write!(out, "; unused"),
-        Destination::Masked(r) => write!(out, "; to {} {} {}", r.number, r.mask, r.kind),
+        None => write!(out, "; unused"),
+        Some(r) => write!(out, "; to {} {} {}", r.number, r.mask, r.kind),
     }
 }
 
@@ -72,8 +71,8 @@ fn bias_bits(s: Sampler) -> u32 {
 fn again<W: Write>(out: &mut W, t: Token, bytes: &[u8]) -> io::Result<()> {
     let mut token = [170u8; 24];
     match bytecode::encode(t, &mut token) {
-        Encoded::Refused(r) => print::refusal(out, r),
-        Encoded::Written => {
+        Err(r) => print::refusal(out, r),
+        Ok(()) => {
             if token.as_slice() == bytes {
                 write!(out, "; the same bytes")?;
             }
@@ -91,8 +90,8 @@ pub fn encoded<W: Write>(out: &mut W, room: u8, t: Token) -> io::Result<()> {
 
 fn encoded_into<W: Write>(out: &mut W, t: Token, buffer: &mut [u8]) -> io::Result<()> {
     match bytecode::encode(t, buffer) {
-        Encoded::Refused(r) => print::refusal(out, r)?,
-        Encoded::Written => writeln!(out, "written")?,
+        Err(r) => print::refusal(out, r)?,
+        Ok(()) => writeln!(out, "written")?,
     }
     print::bytes(out, buffer, |out, byte| write!(out, "{byte:02x}"))
 }

@@ -3,9 +3,7 @@
 // 3 sampler), number in two bytes and seven values, in the order of the record.
 ghost use Rattle.std.specs.Prelude.{◌≤◌, ◌≡◌, length};
 
-use layout::record::{
-    Destination, DirectSource, IndexedSource, MaskedRegister, Operand, Sampler, Token,
-};
+use layout::record::{DirectSource, IndexedSource, MaskedRegister, Operand, Sampler, Token};
 
 pub fn token(s: &[u8]) -> Token
     requires { 30 ≤ length s.now }
@@ -23,11 +21,11 @@ pub fn token(s: &[u8]) -> Token
     }
 }
 
-fn destination(tag: u8, number: u16, mask: u8, kind: u8) -> Destination {
+fn destination(tag: u8, number: u16, mask: u8, kind: u8) -> Option<MaskedRegister> {
     if tag == 0 {
-        return Destination::Unused;
+        return None;
     }
-    Destination::Masked(MaskedRegister { number, mask, kind })
+    Some(MaskedRegister { number, mask, kind })
 }
 
 fn operand(s: &[u8]) -> Operand

@@ -1,7 +1,6 @@
 // Cases of line.
 use crate::{flat, print};
 use layout::record::Token;
-use listing::answers::Printed;
 use std::io;
 use std::io::Write;
 
@@ -29,12 +28,12 @@ fn listed_into<W: Write>(
     buffer: &mut [u8],
 ) -> io::Result<()> {
     match listing::line(t, stage, depth, buffer) {
-        Printed::Refused(r) => {
+        Err(r) => {
             print::refusal(out, r)?;
             out.write_all(buffer)?;
             writeln!(out)
         }
-        Printed::Length(n) => {
+        Ok(n) => {
             writeln!(out, "length {n}")?;
             out.write_all(buffer)?;
             if n != buffer.len() {

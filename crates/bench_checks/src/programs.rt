@@ -6,7 +6,6 @@ use crate::print;
 use std::alloc::AllocError;
 use std::io;
 use std::io::Write;
-use verifier::answers::Checked;
 
 // An edition in four bytes, and a program.
 pub fn checked<W: Write>(out: &mut W, bytes: &[u8]) -> io::Result<()> {
@@ -14,8 +13,8 @@ pub fn checked<W: Write>(out: &mut W, bytes: &[u8]) -> io::Result<()> {
         return print::no_such_case(out);
     };
     match verifier::check(u32::from_le_bytes(*edition), program) {
-        Checked::Refused(r) => print::refusal(out, r),
-        Checked::Accepted(p) => writeln!(out, "accepted {} {}", p.stage, p.tokens),
+        Err(r) => print::refusal(out, r),
+        Ok(p) => writeln!(out, "accepted {} {}", p.stage, p.tokens),
     }
 }
 
