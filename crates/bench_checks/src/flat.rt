@@ -9,8 +9,12 @@ pub fn token(s: &[u8]) -> Token
     requires { 30 ≤ length s.now }
 {
     let opcode = u32::from_le_bytes([s[1], s[2], s[3], s[4]]);
-    let number = u16::from_le_bytes([s[6], s[7]]);
-    let destination = destination(s[5], number, s[8], s[9]);
+    let register = MaskedRegister {
+        number: u16::from_le_bytes([s[6], s[7]]),
+        mask: s[8],
+        kind: s[9],
+    };
+    let destination = (s[5] != 0).then_some(register);
     let source1 = operand(&s[10..20]);
     let source2 = operand(&s[20..30]);
     Token {
@@ -19,13 +23,6 @@ pub fn token(s: &[u8]) -> Token
         source1,
         source2,
     }
-}
-
-fn destination(tag: u8, number: u16, mask: u8, kind: u8) -> Option<MaskedRegister> {
-    if tag == 0 {
-        return None;
-    }
-    Some(MaskedRegister { number, mask, kind })
 }
 
 fn operand(s: &[u8]) -> Operand
