@@ -2,7 +2,7 @@
 use Rattle.std.specs.Prelude.{T, not, ℤ, pos, negsuc, Float}
 use Rattle.std.specs.Float.Ieee.{nan, inf, fin, is_nan}
 use Rattle.bytecode.specs.Bias.{is_eighth}
-use Rattle.bench_checks.proofs.codec.bias.Goals as goal
+use Rattle.bench_checks.proofs.codec.bias_bits.Goals as goal
 
 is_number : (b : ℤ) (x : Float) → T (is_eighth b x) → T (not (is_nan x))
 unfolding is_eighth is_nan
@@ -11,5 +11,5 @@ is_number (negsuc n) nan t = t
 is_number b (inf s) t = tt
 is_number b (fin s m e) t = tt
 
-pub float_to_bits-eighth : goal.float_to_bits-eighth
-float_to_bits-eighth g c = is_number _ _ c.bias-eighth.ensures.exact
+pub float_to_bits-result : goal.float_to_bits-result
+float_to_bits-result c = is_number _ _ c.bias-eighth.ensures.exact
