@@ -2,7 +2,6 @@
 // answers: to its opening, and to each read. The reader needs no edition and does not judge the program.
 #![tactic(auto)]
 
-use bytecode::answers::Refusal;
 use std::io;
 use std::io::{BufWriter, Read, Write};
 
@@ -31,7 +30,7 @@ fn read_all<W: Write>(out: &mut W, program: &[u8]) -> io::Result<()> {
     let opened = reader::open(program);
     match opened.answer {
         Ok(()) => writeln!(out, "open")?,
-        Err(r) => refused(out, r)?,
+        Err(r) => writeln!(out, "{r}")?,
     }
     let mut reader = opened.reader;
     for _ in 0..program.len() / 24 + 2 {
@@ -39,7 +38,7 @@ fn read_all<W: Write>(out: &mut W, program: &[u8]) -> io::Result<()> {
         let read = reader::read(reader);
         match read.answer {
             Ok(t) => token(out, place, t.opcode)?,
-            Err(r) => refused(out, r)?,
+            Err(r) => writeln!(out, "{r}")?,
         }
         reader = read.reader;
     }
@@ -49,13 +48,4 @@ fn read_all<W: Write>(out: &mut W, program: &[u8]) -> io::Result<()> {
 // The opcode is printed in hexadecimal, as the format lists it.
 fn token<W: Write>(out: &mut W, place: usize, opcode: u32) -> io::Result<()> {
     writeln!(out, "token {place} opcode {opcode:02x}")
-}
-
-fn refused<W: Write>(out: &mut W, r: Refusal) -> io::Result<()> {
-    let Refusal {
-        number,
-        token,
-        part,
-    } = r;
-    writeln!(out, "refused {number} at {token} part {part}")
 }

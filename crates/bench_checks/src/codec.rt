@@ -1,13 +1,13 @@
 // Cases of decode, encode and bias.
 use crate::print;
-use layout::record::{MaskedRegister, Operand, Sampler, Token};
+use layout::record::{DirectSource, MaskedRegister, Operand, Sampler, Token};
 use std::io;
 use std::io::Write;
 
 // Decodes bytes and prints the record, and whether it encodes to the same bytes.
 pub fn decoded<W: Write>(out: &mut W, bytes: &[u8]) -> io::Result<()> {
     match bytecode::decode(bytes) {
-        Err(r) => print::refusal(out, r),
+        Err(r) => writeln!(out, "{r}"),
         Ok(t) => {
             record(out, t)?;
             again(out, t, bytes)
@@ -32,18 +32,18 @@ fn destination<W: Write>(out: &mut W, d: Option<MaskedRegister>) -> io::Result<(
 fn operand<W: Write>(out: &mut W, o: Operand) -> io::Result<()> {
     match o {
         Operand::Unused => write!(out, "; unused"),
-        Operand::Direct(s) => write!(
-            out,
-            "; direct {} {} {} {} {} {}",
-            s.number, s.offset, s.swizzle, s.kind, s.index_kind, s.component
-        ),
-        Operand::Indexed(s) => write!(
-            out,
-            "; indexed {} {} {} {} {} {}",
-            s.number, s.offset, s.swizzle, s.kind, s.index_kind, s.component
-        ),
+        Operand::Direct(s) => source(out, "direct", s),
+        Operand::Indexed(s) => source(out, "indexed", DirectSource::from(s)),
         Operand::Sampler(s) => sampler(out, s),
     }
+}
+
+fn source<W: Write>(out: &mut W, name: &str, s: DirectSource) -> io::Result<()> {
+    write!(
+        out,
+        "; {name} {} {} {} {} {} {}",
+        s.number, s.offset, s.swizzle, s.kind, s.index_kind, s.component
+    )
 }
 
 fn sampler<W: Write>(out: &mut W, s: Sampler) -> io::Result<()> {
@@ -71,7 +71,7 @@ fn bias_bits(s: Sampler) -> u32 {
 fn again<W: Write>(out: &mut W, t: Token, bytes: &[u8]) -> io::Result<()> {
     let mut token = [170u8; 24];
     match bytecode::encode(t, &mut token) {
-        Err(r) => print::refusal(out, r),
+        Err(r) => writeln!(out, "{r}"),
         Ok(()) => {
             if token.as_slice() == bytes {
                 write!(out, "; the same bytes")?;
@@ -90,7 +90,7 @@ pub fn encoded<W: Write>(out: &mut W, room: u8, t: Token) -> io::Result<()> {
 
 fn encoded_into<W: Write>(out: &mut W, t: Token, buffer: &mut [u8]) -> io::Result<()> {
     match bytecode::encode(t, buffer) {
-        Err(r) => print::refusal(out, r)?,
+        Err(r) => writeln!(out, "{r}")?,
         Ok(()) => writeln!(out, "written")?,
     }
     print::bytes(out, buffer, |out, byte| write!(out, "{byte:02x}"))

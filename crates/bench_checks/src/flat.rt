@@ -28,25 +28,18 @@ pub fn token(s: &[u8]) -> Token
 fn operand(s: &[u8]) -> Operand
     requires { length s.now ≡ 10 }
 {
-    let tag = s[0];
     let number = u16::from_le_bytes([s[1], s[2]]);
-    match tag {
-        1 => Operand::Direct(DirectSource {
-            number,
-            offset: s[3],
-            swizzle: s[4],
-            kind: s[5],
-            index_kind: s[6],
-            component: s[7],
-        }),
-        2 => Operand::Indexed(IndexedSource {
-            number,
-            offset: s[3],
-            swizzle: s[4],
-            kind: s[5],
-            index_kind: s[6],
-            component: s[7],
-        }),
+    let source = IndexedSource {
+        number,
+        offset: s[3],
+        swizzle: s[4],
+        kind: s[5],
+        index_kind: s[6],
+        component: s[7],
+    };
+    match s[0] {
+        1 => Operand::Direct(DirectSource::from(source)),
+        2 => Operand::Indexed(source),
         3 => Operand::Sampler(Sampler {
             number,
             bias: s[3].cast_signed(),

@@ -29,7 +29,7 @@ fn listed_into<W: Write>(
 ) -> io::Result<()> {
     match listing::line(t, stage, depth, buffer) {
         Err(r) => {
-            print::refusal(out, r)?;
+            writeln!(out, "{r}")?;
             out.write_all(buffer)?;
             writeln!(out)
         }

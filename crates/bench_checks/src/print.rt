@@ -1,11 +1,6 @@
 // Output that several kinds of cases have.
-use bytecode::answers::Refusal;
 use std::io;
 use std::io::Write;
-
-pub fn refusal<W: Write>(out: &mut W, r: Refusal) -> io::Result<()> {
-    writeln!(out, "refused {} at {} part {}", r.number, r.token, r.part)
-}
 
 pub fn no_such_case<W: Write>(out: &mut W) -> io::Result<()> {
     writeln!(out, "no such case")

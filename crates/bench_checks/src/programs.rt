@@ -13,7 +13,7 @@ pub fn checked<W: Write>(out: &mut W, bytes: &[u8]) -> io::Result<()> {
         return print::no_such_case(out);
     };
     match verifier::check(u32::from_le_bytes(*edition), program) {
-        Err(r) => print::refusal(out, r),
+        Err(r) => writeln!(out, "{r}"),
         Ok(p) => writeln!(out, "accepted {} {}", p.stage, p.tokens),
     }
 }
