@@ -1,4 +1,5 @@
 -- The goals of `pack_sampler` that the check leaves.
+use native.Mathlib.Omega.{arith}
 use borrow.Author.Rules.{rules}
 use mir.Syntax.{w8}
 use mir.Val.{SFits}
@@ -9,7 +10,7 @@ use Rattle.bytecode.proofs.pack.pack_sampler.Goals as goal
 pub returns : goal.returns
 unfolding sampler_field
 returns c =
-    let s = c.args.sampler in
+    let s = c.args.s in
     let f : SFits w8 s.bias = search rules in
-    let b = rw (to_z-of_z w8 s.bias f) at c.unsigned_byte-bias.ensures in
-    simp (c.sampler_high-high.ensures.0, c.sampler_low-low.ensures.0, b.0)
+    let b = rw (to_z-of_z w8 s.bias f) at c.unsigned_byte.ensures in
+    omega (arith, b.0)

@@ -1,7 +1,8 @@
 -- The goals of `pack_source` that the check leaves.
+use native.Mathlib.Omega.{arith}
 use Rattle.bytecode.specs.Encode.{source_field}
 use Rattle.bytecode.proofs.pack.pack_source.Goals as goal
 
-pub returns : goal.returns
+pub returns-clause-value : goal.returns-clause-value
 unfolding source_field
-returns c = simp (c.source_high-high.ensures.0, c.source_low-low.ensures.0)
+returns-clause-value c = omega arith
