@@ -22,6 +22,7 @@ pub(crate) fn pack_token(token: Token) -> Fields
     }
 }
 
+#[tactic(auto, unfolding(crate::specs::Encode::register_field))]
 fn pack_register(register: MaskedRegister) -> u64
     requires { RegisterPlaced register }
     ensures { result ≡ register_field register }
@@ -31,6 +32,7 @@ fn pack_register(register: MaskedRegister) -> u64
         + placed(register.kind as u64, bits::MASKED_KIND)
 }
 
+#[tactic(auto, unfolding(crate::specs::Encode::source_field))]
 fn pack_operand(operand: Operand) -> u64
     requires { OperandPlaced operand }
     ensures { result ≡ operand_field operand }
@@ -44,6 +46,7 @@ fn pack_operand(operand: Operand) -> u64
 }
 
 // The field of a source whose D is 0.
+#[tactic(auto, unfolding(crate::specs::Encode::source_field))]
 fn pack_source(s: DirectSource) -> u64
     requires { SourcePlaced s.kind s.index_kind s.component }
     ensures value { result ≡ source_field s.number s.offset s.swizzle s.kind s.index_kind s.component 0 }
@@ -57,6 +60,7 @@ fn pack_source(s: DirectSource) -> u64
         + placed(s.component as u64, bits::COMPONENT)
 }
 
+#[tactic(auto, unfolding(crate::specs::Encode::sampler_field))]
 fn pack_sampler(s: Sampler) -> u64
     requires { SamplerPlaced s }
     ensures { result ≡ sampler_field s }
