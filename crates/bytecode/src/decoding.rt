@@ -39,20 +39,15 @@ pub fn fault_of(raw: RawToken) -> Result<(), Refusal>
 }
 
 // Whether the opcode is listed and no field has a stray bit. Most tokens are clean, so it is tested before a fault is looked for.
+#[tactic(auto, unfolding(crate::specs::computed::CleanFields::is_clean))]
 pub fn is_clean(raw: RawToken) -> bool
     ensures { result ≡ is_clean raw.shape raw.fields }
 {
     let RawToken { shape, fields } = raw;
-    if !shape.listed {
-        return false;
-    }
-    let destination = bits::is_stray(
-        bits::destination_bits(shape.destination),
-        fields.destination,
-    );
-    let source1 = bits::is_stray(bits::operand_bits(shape.source1), fields.source1);
-    let source2 = bits::is_stray(bits::operand_bits(shape.source2), fields.source2);
-    !(destination | source1 | source2)
+    shape.listed
+        && !(bits::is_stray(bits::destination_bits(shape.destination), fields.destination)
+            | bits::is_stray(bits::operand_bits(shape.source1), fields.source1)
+            | bits::is_stray(bits::operand_bits(shape.source2), fields.source2))
 }
 
 // A field with no defined bits is unused, and must be 0.
