@@ -26,7 +26,7 @@ use Rattle.components.proofs.AccessFields.{source_dimension}
 use Rattle.components.proofs.AccessLaws.{none_missing, lacks_reads1, lacks_reads2}
 
 -- what the code answers, with what it means
-pub with_meaning : (Means : Bool → Type 0) (r b : Bool) → r ≡ b → Means b → (r ≡ b) × Means r
+with_meaning : (Means : Bool → Type 0) (r b : Bool) → r ≡ b → Means b → (r ≡ b) × Means r
 with_meaning Means r b e m = (e, subst Means (sym e) m)
 
 -- ---- one source
@@ -175,3 +175,34 @@ module _ (s : Written) (f : Fields) where
       reads_by (holds false Source Unused) (ap shape_of is)
       (through_direct s 1 (λ z. named_set z (selector_set1 o 0 0)) Source f.source1 direct (ap (λ o. lacks_access s (selected_access (selector_set1 o 0 0) (direct_of f.source1))) is ∙ e))
       refl
+
+-- ---- what each test answers, with what that means
+
+pub ordinary_means : (s : Written) (f : Fields) (r : Bool) → r ≡ may_read_unwritten s f → (r ≡ may_read_unwritten s f) × OrdinaryReads r s f
+ordinary_means s f r e = with_meaning (λ r. OrdinaryReads r s f) r (may_read_unwritten s f) e (ordinary_reads s f)
+
+pub matrix_means : (s : Written) (f : Fields) (r : Bool) → r ≡ matrix_may_read_unwritten s f → (r ≡ matrix_may_read_unwritten s f) × MatrixReads r s f
+matrix_means s f r e = with_meaning (λ r. MatrixReads r s f) r (matrix_may_read_unwritten s f) e (matrix_reads s f)
+
+pub tex_means : (s : Written) (f : Fields) (r : Bool) → r ≡ tex_may_read_unwritten s f → (r ≡ tex_may_read_unwritten s f) × TexReads r s f
+tex_means s f r e = with_meaning (λ r. TexReads r s f) r (tex_may_read_unwritten s f) e (tex_reads s f)
+
+pub indexed_means : (s : Written) (f : Fields) (r : Bool) → r ≡ indexed_may_read_unwritten s f → (r ≡ indexed_may_read_unwritten s f) × IndexedReads r s f
+indexed_means s f r e = with_meaning (λ r. IndexedReads r s f) r (indexed_may_read_unwritten s f) e (indexed_reads s f)
+
+pub opener_means : (s : Written) (f : Fields) (r : Bool) → r ≡ opener_may_read_unwritten s f → (r ≡ opener_may_read_unwritten s f) × OpenerReads r s f
+opener_means s f r e = with_meaning (λ r. OpenerReads r s f) r (opener_may_read_unwritten s f) e (opener_reads s f)
+
+pub kil_means : (s : Written) (f : Fields) (r : Bool) → r ≡ kil_may_read_unwritten s f → (r ≡ kil_may_read_unwritten s f) × KilReads r s f
+kil_means s f r e = with_meaning (λ r. KilReads r s f) r (kil_may_read_unwritten s f) e (kil_reads s f)
+
+-- where all four components of both sources' registers are written, the first test says no
+pub ordinary_none : (s : Written) (f : Fields) → lacks_some s 1 (direct_of f.source1) ≡ false → lacks_some s 1 (direct_of f.source2) ≡ false → false ≡ may_read_unwritten s f
+unfolding may_read_unwritten
+ordinary_none s f a b =
+    let mask = (register_of f.destination).mask in
+    simp (
+      sym (none_missing s 1 (λ z. named_set z (selector_set1 f.opcode mask 0)) (direct_of f.source1) a),
+      sym (none_missing s 1 (λ z. named_set z (selector_set2 f.opcode mask)) (direct_of f.source2) b),
+    )
+    refl
