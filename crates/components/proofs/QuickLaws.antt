@@ -4,7 +4,7 @@ use Prim.Native.Nat.{ℕ}
 use mathlib.Core.Bool.{Bool, true, false, cond, true≢false}
 use mathlib.Core.Path.{◌≡◌, refl, sym, ap, ap₂, subst, fun_ext, ◌∙◌}
 use lib.Dec.{eqb, eqb→eq}
-use Rattle.laws.proofs.Every.{neither}
+use Rattle.std.proofs.lemmas.Bool.{or_parts}
 use Rattle.layout.specs.Opcodes.{tex, openers, is_matrix, is_opener, row_count2, holds, row_of, shape_of_row, shape_of}
 use Rattle.layout.specs.Records.{register_of, direct_of, is_indexed, indexed_of, sampler_of, source_of, operand_of, token_of}
 use Rattle.layout.specs.computed.Sets.{named_set, selector_set1, selector_set2, read_set2}
@@ -116,7 +116,7 @@ module _ (s : Written) (f : Fields) where
       let p = is_ordinary_lem o is in
       let (whole, not-sampler) = ordinary_shape o p in
       let shape2 = (shape_of o).source2 in
-      let (l, r) = neither (lacks_access s (selected_access (selector_set1 o mask 0) (direct_of f.source1))) (lacks_access s (selected_access (selector_set2 o mask) (direct_of f.source2))) e in
+      let (l, r) = or_parts (lacks_access s (selected_access (selector_set1 o mask 0) (direct_of f.source1))) (lacks_access s (selected_access (selector_set2 o mask) (direct_of f.source2))) e in
       reads_by (holds true Source shape2) whole
       (direct_first shape2 0 (no_dimension shape2 not-sampler f.source2) direct.0 l)
       (second_selected p.matrix mask shape2 (through_direct s 1 (λ z. named_set z (selector_set2 o mask)) shape2 f.source2 direct.1 r))
@@ -124,7 +124,7 @@ module _ (s : Written) (f : Fields) where
   pub matrix_reads : MatrixReads (matrix_may_read_unwritten s f) s f
   unfolding matrix_may_read_unwritten token_of
   matrix_reads e is direct =
-      let (l, r) = neither (lacks_access s (selected_access (selector_set1 o mask 0) (direct_of f.source1))) (lacks_some s (row_count2 o) (direct_of f.source2)) e in
+      let (l, r) = or_parts (lacks_access s (selected_access (selector_set1 o mask 0) (direct_of f.source1))) (lacks_some s (row_count2 o) (direct_of f.source2)) e in
       reads_by (holds true Source Source) (matrix_shape o is)
       (direct_first Source 0 (source_dimension f.source2) direct.0 l)
       (through_direct s (row_count2 o) (read_set2 o mask) Source f.source2 direct.1 (sym (none_missing s (row_count2 o) (read_set2 o mask) (direct_of f.source2) r)))
@@ -145,7 +145,7 @@ module _ (s : Written) (f : Fields) where
   indexed_reads e is =
       let (whole, not-sampler) = first_shape o is in
       let shape2 = (shape_of o).source2 in
-      let (l, r) = neither (may_lack s 1 f.source1) (may_lack s (row_count2 o) f.source2) e in
+      let (l, r) = or_parts (may_lack s 1 f.source1) (may_lack s (row_count2 o) f.source2) e in
       reads_by (holds true Source shape2) whole
       (reads_first shape2 0 (no_dimension shape2 not-sampler f.source2) (none_at_all s 1 (λ z. named_set z (selector_set1 o mask 0)) f.source1 l))
       (through_either s (row_count2 o) (read_set2 o mask) shape2 f.source2 r)
@@ -162,7 +162,7 @@ module _ (s : Written) (f : Fields) where
   pub opener_reads : OpenerReads (opener_may_read_unwritten s f) s f
   unfolding opener_may_read_unwritten token_of
   opener_reads e is =
-      let (l, r) = neither (opener_lacks s f.source1) (opener_lacks s f.source2) e in
+      let (l, r) = or_parts (opener_lacks s f.source1) (opener_lacks s f.source2) e in
       let by : ℕ → ℕ → Bool = λ field selectors. lacks_access s (access_through 1 (λ z. named_set z selectors) (source_of field)) in
       reads_by (branch_shape true) (opener_shape o is)
       (ap (by f.source1) (all_four1 is (dimension_of (source_of f.source2))) ∙ none_by_four s f.source1 l)
