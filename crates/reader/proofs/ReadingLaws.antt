@@ -7,6 +7,7 @@ use mathlib.Core.Path.{◌≡◌, refl, ◌∙◌, sym, ap}
 use native.Mathlib.Omega.{arith}
 use lib.Dec.{ltb, eqb}
 use lib.ListN.{length}
+use denote.Ref.{Bor}
 use borrow.Author.Tests.{le-ltb, lt-ltb, ltb-true, ltb-false}
 use Rattle.bytecode.specs.Fields.{fields_of}
 use Rattle.bytecode.specs.Decode.{refusal, no_refusal, unused_part, undefined_part, token_fault, decode_fault, decode_of}
@@ -19,9 +20,11 @@ use Rattle.bytecode.specs.declared.answers.Refusal.{Refusal}
 use Rattle.bytecode.specs.declared.answers.Decoded.{Decoded}
 use Rattle.bytecode.specs.declared.answers.Decoded.TheVariants.{Token as Accepted, Refused}
 use Rattle.layout.specs.Programs.{token_at, token_start, no_token_left}
+use Rattle.reader.specs.declared.answers.TokenReader.{TokenReader}
+use Rattle.reader.specs.declared.answers.Opening.{Opening}
 use Rattle.reader.specs.declared.answers.Opening.TheVariants.{Ready, Refused as NotOpened}
-use Rattle.reader.specs.Reading.{opening_fault, opening_numbers, opening_of, stands_at, fault_at, read_of, read_fault, place_from, place_after, ReadsAt}
-use Rattle.reader.specs.computed.Steps.{token_bytes, Steps}
+use Rattle.reader.specs.Reading.{opening_fault, opening_numbers, opening_of, stands_at, fault_at, read_of, read_fault, place_from, place_after, ReadsAt, Opens, Reads}
+use Rattle.reader.specs.computed.Steps.{token_bytes}
 
 module _ (s : List ℕ) where
   pub too_short : length s < 7 → NotOpened (refusal 2 0 0) ≡ opening_of s
@@ -33,13 +36,19 @@ module _ (s : List ℕ) where
   long_enough h = simp (le-ltb (length s) 7 h)
 
   -- the numbers of what opening answers are its fault's
-  pub opening_numbers_lem : opening_numbers (opening_of s) ≡ found_numbers (opening_fault s) 0 0
+  opening_numbers_lem : opening_numbers (opening_of s) ≡ found_numbers (opening_fault s) 0 0
   unfolding opening_of opening_fault
   opening_numbers_lem = go (ltb (length s) 7)
     where
       go : (short : Bool) → opening_numbers (cond (eqb (cond short (refusal 2 0 0) no_refusal).number 0) Ready (NotOpened (cond short (refusal 2 0 0) no_refusal))) ≡ found_numbers (cond short (refusal 2 0 0) no_refusal) 0 0
       go true = refl
       go false = refl
+
+-- a reader that holds what was lent, at token 0, with the right answer
+pub opens : (lent : Bor (List ℕ)) (answer : Opening) → answer ≡ opening_of lent.now
+    → Opens lent (record { answer = answer; reader = record { program = lent; place = 0 } })
+opens lent answer e =
+    record { answer = e; numbers = ap opening_numbers e ∙ opening_numbers_lem lent.now; program = refl; place = refl }
 
 -- the numbers of an answer that names the reader's token
 stands_numbers : (n : ℕ) (s : List ℕ) → decoded_numbers (stands_at n (decode_of s)) ≡ found_numbers (fault_at n (decode_fault s)) 0 0
@@ -121,10 +130,12 @@ module _ (s : List ℕ) (n : ℕ) where
   unfolding place_after
   stays r e = ap (place_from n) e
 
-  -- the step after an answer
-  module _ (d : Decoded) (reads : ReadsAt s n d) where
-    pub steps_on : (t : Token) → d ≡ Accepted t → Steps s n (record { answer = Accepted t; place = n + 1 })
-    steps_on t e = record { reads = rw e at reads; place = sym (moves_on t (sym reads.answer ∙ e)) }
+  -- so what decode answers of them tells what a read does
+  pub reads_decoded : {bytes : List ℕ} {d e : Decoded} → bytes ≡ token_bytes s n → d ≡ decode_of bytes → d ≡ e → ReadsAt s n (stands_at n e)
+  reads_decoded b p q = rw (← q, p, b) reads_bytes
 
-    pub steps_nowhere : (r : Refusal) → d ≡ Refused r → Steps s n (record { answer = Refused r; place = n })
-    steps_nowhere r e = record { reads = rw e at reads; place = sym (stays r (sym reads.answer ∙ e)) }
+-- a reader is left where its answer says
+pub reads_on : (reader : TokenReader) {d : Decoded} {place : ℕ} → ReadsAt reader.program.now reader.place d → place ≡ place_from reader.place d
+    → Reads reader (record { answer = d; reader = record { program = reader.program; place = place } })
+unfolding place_after
+reads_on reader reads e = record { reads = reads; program = refl; place = e ∙ ap (place_from reader.place) reads.answer }

@@ -1,26 +1,9 @@
 // What the reader answers, on a plain slice and a number of tokens read.
 ghost use Rattle.std.specs.Prelude.{◌≡◌};
-ghost use Rattle.reader.specs.Reading.{opening_of, stands_at, ReadsAt};
-ghost use Rattle.reader.specs.computed.Steps.{token_bytes, Steps};
+ghost use Rattle.reader.specs.Reading.{ReadsAt};
+ghost use Rattle.reader.specs.computed.Steps.{token_bytes};
 
-use crate::answers::Opening;
 use bytecode::answers::Decoded;
-
-// An answer, and the place that the reader has after it.
-#[derive(Clone, Copy)]
-pub(crate) struct Step {
-    pub answer: Decoded,
-    pub place: usize,
-}
-
-pub(crate) fn opening(program: &[u8]) -> Opening
-    ensures { result ≡ opening_of program.now }
-{
-    if program.len() < 7 {
-        return Opening::Refused(bytecode::refusal(2, 0, 0));
-    }
-    Opening::Ready
-}
 
 // The bytes of a token, or none where the program has no such token.
 pub fn token_bytes(program: &[u8], token: usize) -> &[u8]
@@ -39,34 +22,12 @@ pub fn token_bytes(program: &[u8], token: usize) -> &[u8]
     &program[start..end]
 }
 
-// What a reader that has read `token` tokens answers. Where there is no such token, decode answers 24 of no bytes.
+// What a reader that has read `token` tokens answers. Where there is no such token, decode answers 24 of no bytes. A refusal names the
+// token that the reader stands at.
 pub fn read_at(program: &[u8], token: usize) -> Decoded
     ensures { ReadsAt program.now token result }
 {
-    stands_at(token, bytecode::decode(token_bytes(program, token)))
-}
-
-// A token moves the reader on, a refusal does not.
-pub(crate) fn step_at(program: &[u8], place: usize) -> Step
-    ensures { Steps program.now place result }
-{
-    match read_at(program, place) {
-        Decoded::Token(t) => Step {
-            answer: Decoded::Token(t),
-            place: place + 1,
-        },
-        Decoded::Refused(r) => Step {
-            answer: Decoded::Refused(r),
-            place,
-        },
-    }
-}
-
-// A refusal names the token that the reader stands at.
-fn stands_at(token: usize, answer: Decoded) -> Decoded
-    ensures { result ≡ stands_at token answer }
-{
-    match answer {
+    match bytecode::decode(token_bytes(program, token)) {
         Decoded::Token(t) => Decoded::Token(t),
         Decoded::Refused(r) => Decoded::Refused(bytecode::refusal(r.number, token, r.part)),
     }
