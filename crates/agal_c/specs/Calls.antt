@@ -40,10 +40,10 @@ encoded_answer Written = answered 0 24
 encoded_answer (NotWritten r) = refused r 0
 
 -- what is no flat form is 25, before any other test
-unfoldable pub encode_answer : List ℕ → List ℕ → Answer
+abbrev pub encode_answer : List ℕ → List ℕ → Answer
 encode_answer flat buffer = cond (is_flat flat) (encoded_answer (encode_of (token_of_flat flat) buffer)) (refused (refusal 25 0 0) 0)
 
-unfoldable pub after_flat_encode : List ℕ → List ℕ → List ℕ
+abbrev pub after_flat_encode : List ℕ → List ℕ → List ℕ
 after_flat_encode flat buffer = cond (is_flat flat) (after_encode (token_of_flat flat) buffer) buffer
 
 -- ---- line and report
@@ -52,9 +52,9 @@ after_flat_encode flat buffer = cond (is_flat flat) (after_encode (token_of_flat
 abbrev pub printed_answer : Printed → Answer
 printed_answer r = numbers_answer (printed_numbers r)
 
-unfoldable pub line_answer_of : List ℕ → ℕ → ℕ → List ℕ → Answer
+abbrev pub line_answer_of : List ℕ → ℕ → ℕ → List ℕ → Answer
 line_answer_of flat stage depth buffer =
     cond (is_flat flat) (printed_answer (line_answer (token_of_flat flat) stage depth buffer)) (refused (refusal 25 0 0) 0)
 
-unfoldable pub after_flat_line : List ℕ → ℕ → ℕ → List ℕ → List ℕ
+abbrev pub after_flat_line : List ℕ → ℕ → ℕ → List ℕ → List ℕ
 after_flat_line flat stage depth buffer = cond (is_flat flat) (after_line (token_of_flat flat) stage depth buffer) buffer

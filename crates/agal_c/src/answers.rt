@@ -1,12 +1,10 @@
 // What the exported functions answer, as C reads it: `include/agal.h` has the same struct.
 ghost use Rattle.std.specs.Prelude.{◌≡◌};
 ghost use Rattle.bytecode.specs.Decode.{refusal};
-ghost use Rattle.agal_c.specs.Answers.{answered as answered_of, refused as refused_of};
-ghost use Rattle.agal_c.specs.Calls.{encoded_answer, printed_answer};
-ghost use Rattle.agal_c.specs.computed.Delivery.{code_answer};
 
 use bytecode::answers::{Encoded, Refusal};
 use listing::answers::Printed;
+use verifier::answers::Checked;
 
 // `number` is 0 where nothing is refused. `token` and `part` are the place of a refusal, `stage` is what check found, and `value` what else
 // is answered: the token count of check, the length of what was written, or the reader's place.
@@ -20,63 +18,90 @@ pub struct Answer {
     pub value: usize,
 }
 
-pub(crate) fn answered(stage: u8, value: usize) -> Answer
-    ensures { result ≡ answered_of stage value }
-{
-    Answer {
-        number: 0,
-        part: 0,
-        stage,
-        token: 0,
-        value,
+impl Answer {
+    ghost use Rattle.agal_c.specs.Answers.{answered as answered_of, refused as refused_of};
+    ghost use Rattle.agal_c.specs.computed.Delivery.{code_answer};
+
+    pub(crate) fn answered(stage: u8, value: usize) -> Answer
+        ensures { result ≡ answered_of stage value }
+    {
+        Answer {
+            number: 0,
+            part: 0,
+            stage,
+            token: 0,
+            value,
+        }
+    }
+
+    pub(crate) fn refused(refusal: Refusal, value: usize) -> Answer
+        ensures { result ≡ refused_of refusal value }
+    {
+        Answer {
+            number: refusal.number,
+            part: refusal.part,
+            stage: 0,
+            token: refusal.token,
+            value,
+        }
+    }
+
+    // A refusal at a place: the place is its token and also the value, since a refusal does not move on.
+    pub(crate) fn refused_at(number: u8, part: u8, place: usize) -> Answer
+        ensures { result ≡ refused_of (refusal number place part) place }
+    {
+        Answer::refused(bytecode::refusal(number, place, part), place)
+    }
+
+    // The answer to what `deliver` returned for the token at a place: the next place as the value, or the fault, at that place.
+    pub(crate) fn delivered(code: u32, place: usize, next: usize) -> Answer
+        ensures { result ≡ code_answer code place next }
+    {
+        if code == 0 {
+            return Answer::answered(0, next);
+        }
+        Answer::refused_at((code % 256) as u8, (code / 256 % 256) as u8, place)
     }
 }
 
-pub(crate) fn refused(refusal: Refusal, value: usize) -> Answer
-    ensures { result ≡ refused_of refusal value }
-{
-    Answer {
-        number: refusal.number,
-        part: refusal.part,
-        stage: 0,
-        token: refusal.token,
-        value,
+// Of a program its stage and token count.
+impl From<Checked> for Answer {
+    ghost use Rattle.agal_c.specs.Calls.{check_answer};
+
+    ghost from_gives = { λ checked answer. answer ≡ check_answer checked };
+
+    fn from(checked: Checked) -> Answer {
+        match checked {
+            Checked::Accepted(p) => Answer::answered(p.stage, p.tokens),
+            Checked::Refused(r) => Answer::refused(r, 0),
+        }
     }
 }
 
-// A refusal at a place: the place is its token and also the value, since a refusal does not move on.
-pub(crate) fn refused_at(number: u8, part: u8, place: usize) -> Answer
-    ensures { result ≡ refused_of (refusal number place part) place }
-{
-    refused(bytecode::refusal(number, place, part), place)
-}
+// Of a token that is encoded the 24 bytes that are written.
+impl From<Encoded> for Answer {
+    ghost use Rattle.agal_c.specs.Calls.{encoded_answer};
 
-// The answer to what `deliver` returned for the token at a place: the next place as the value, or the fault, at that place.
-pub(crate) fn delivered(code: u32, place: usize, next: usize) -> Answer
-    ensures { result ≡ code_answer code place next }
-{
-    if code == 0 {
-        return answered(0, next);
-    }
-    refused_at((code % 256) as u8, (code / 256 % 256) as u8, place)
-}
+    ghost from_gives = { λ encoded answer. answer ≡ encoded_answer encoded };
 
-// What encode answered: 24 bytes are written.
-pub(crate) fn encoded(encoded: Encoded) -> Answer
-    ensures { result ≡ encoded_answer encoded }
-{
-    match encoded {
-        Encoded::Written => answered(0, 24),
-        Encoded::Refused(r) => refused(r, 0),
+    fn from(encoded: Encoded) -> Answer {
+        match encoded {
+            Encoded::Written => Answer::answered(0, 24),
+            Encoded::Refused(r) => Answer::refused(r, 0),
+        }
     }
 }
 
-// What is answered of a text.
-pub(crate) fn printed(printed: Printed) -> Answer
-    ensures { result ≡ printed_answer printed }
-{
-    match printed {
-        Printed::Length(n) => answered(0, n),
-        Printed::Refused(r) => refused(r, 0),
+// Of a text its length.
+impl From<Printed> for Answer {
+    ghost use Rattle.agal_c.specs.Calls.{printed_answer};
+
+    ghost from_gives = { λ printed answer. answer ≡ printed_answer printed };
+
+    fn from(printed: Printed) -> Answer {
+        match printed {
+            Printed::Length(n) => Answer::answered(0, n),
+            Printed::Refused(r) => Answer::refused(r, 0),
+        }
     }
 }

@@ -25,11 +25,10 @@ pub(crate) fn sampler_values(field: u64) -> Values
     ensures { result ≡ sampler_values (sampler_of field) }
 {
     let s = layout::unpack_sampler(field);
-    let first = bytecode::unsigned_byte(s.bias);
     Values {
         form: 3,
         number: s.number,
-        first,
+        first: bytecode::unsigned_byte(s.bias),
         second: s.kind,
         third: s.dimension,
         fourth: s.special,
@@ -43,52 +42,47 @@ pub(crate) fn sampler_values(field: u64) -> Values
 pub(crate) fn destination_from(v: Values) -> Destination
     ensures { result ≡ destination_from v }
 {
-    if v.form == 0 {
-        return Destination::Unused;
+    match v.form {
+        0 => Destination::Unused,
+        _ => Destination::Masked(MaskedRegister {
+            number: v.number,
+            mask: v.first,
+            kind: v.second,
+        }),
     }
-    Destination::Masked(MaskedRegister {
-        number: v.number,
-        mask: v.first,
-        kind: v.second,
-    })
 }
 
 pub(crate) fn operand_from(v: Values) -> Operand
     ensures { result ≡ operand_from v }
 {
-    if v.form == 0 {
-        return Operand::Unused;
-    }
-    if v.form == 1 {
-        return Operand::Direct(DirectSource {
+    match v.form {
+        0 => Operand::Unused,
+        1 => Operand::Direct(DirectSource {
             number: v.number,
             offset: v.first,
             swizzle: v.second,
             kind: v.third,
             index_kind: v.fourth,
             component: v.fifth,
-        });
-    }
-    if v.form == 2 {
-        return Operand::Indexed(IndexedSource {
+        }),
+        2 => Operand::Indexed(IndexedSource {
             number: v.number,
             offset: v.first,
             swizzle: v.second,
             kind: v.third,
             index_kind: v.fourth,
             component: v.fifth,
-        });
+        }),
+        _ => Operand::Sampler(sampler_from(v)),
     }
-    Operand::Sampler(sampler_from(v))
 }
 
 fn sampler_from(v: Values) -> Sampler
     ensures { result ≡ sampler_from v }
 {
-    let bias = layout::signed_byte(v.first);
     Sampler {
         number: v.number,
-        bias,
+        bias: layout::signed_byte(v.first),
         kind: v.second,
         dimension: v.third,
         special: v.fourth,
