@@ -7,7 +7,8 @@ use layout::record::{Destination, DirectSource, IndexedSource, MaskedRegister, O
 
 // `form` tells the cases of the record apart: 0 unused, 1 register or direct source, 2 indexed source, 3 sampler. The C header calls it the
 // kind, a word that is a register's type here. The values after the number stand in the order of the record; those that a case does not
-// have are 0.
+// have are 0. They are seven fields, as the definitions of the flat form have them (`values` in specs/Values.antt): an array would be read
+// by seven indices in their place, which is no plainer.
 #[derive(Clone, Copy)]
 pub(crate) struct Values {
     pub form: u8,

@@ -1,4 +1,4 @@
-// The reader's methods under the names that docs/PROMISES.md has.
+// The reader's methods as functions: these two public names may not go, and docs/PROMISES.md states their contracts.
 ghost use Rattle.reader.specs.Reading.{Opens, Reads};
 
 use crate::answers::{Opened, Read, TokenReader};
