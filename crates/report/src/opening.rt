@@ -23,11 +23,17 @@ impl<'a> Text<'a> {
     {
         if 49160 < input.len() {
             let first = FirstLine::InputTooLong;
-            return Text { first, bytes: input };
+            return Text {
+                first,
+                bytes: input,
+            };
         }
         let Some((digit, bytes)) = input.split_first() else {
             let first = FirstLine::NoEdition;
-            return Text { first, bytes: input };
+            return Text {
+                first,
+                bytes: input,
+            };
         };
         if !is_edition(*digit) {
             let first = FirstLine::Refused(bytecode::refusal(1, 0, 0));

@@ -79,6 +79,8 @@ impl<'a> Iterator for Lines<'a> {
 
     ghost remaining = { λ lines. at_most lines.left };
 
+    // Compiled into the loops, so that a line does not go through memory.
+    #[inline(always)]
     fn next(&mut self) -> Option<Line> {
         if self.left == 0 {
             return None;
