@@ -1,5 +1,6 @@
 -- The steps over all tokens give the answer of the check over paths; and what a loop needs of them.
 -- Assumes nothing.
+use Rattle.std.specs.Prelude.{Err, Ok}
 use Prim.Native.Nat.{ℕ, zero, suc, ◌+◌, ◌-◌, ◌*◌, ◌/◌, ◌%◌, ◌^◌, ◌≤◌, ◌<◌}
 use mathlib.Core.Bool.{Bool, true, false, not, cond}
 use mathlib.Core.List.{List, []}
@@ -28,7 +29,6 @@ use Rattle.verifier.specs.computed.State.{none_written, start_state, with_fault}
 use Rattle.verifier.specs.computed.Step.{fault_of_fields, step_of}
 use Rattle.verifier.specs.computed.Steps.{steps_over, finish_of, judged_by, opens_unlisted}
 use Rattle.verifier.specs.Verdict.{program, answer_of}
-use Rattle.verifier.specs.declared.answers.Checked.TheVariants.{Accepted, Refused}
 use Rattle.verifier.specs.declared.state.State.{State}
 use Rattle.verifier.proofs.Abstract.{abstract_of, Valid, valid_start}
 use Rattle.verifier.proofs.StepLaw.{tells}
@@ -144,7 +144,7 @@ module _ (edition : ℕ) (bytes : List ℕ) (header : 7 ≤ length bytes) where
     where
       go : (b : Bool) (d : ℕ) → st.depth ≡ d
           → answer_of bytes (cond b (check_from (abstract_of st) n []) (refused st.fault.number st.fault.token st.fault.part))
-          ≡ cond b (cond (eqb st.depth 0) (Accepted (program (stage_of bytes) (token_count bytes))) (Refused (refusal 22 st.innermost.opener 0))) (Refused st.fault)
+          ≡ cond b (cond (eqb st.depth 0) (Ok (program (stage_of bytes) (token_count bytes))) (Err (refusal 22 st.innermost.opener 0))) (Err st.fault)
       go true zero e = rw (eq-eqb st.depth 0 e, e)
       go true (suc d) e = rw (ne_eqb st.depth 0 (λ z. omega (arith, e, z)), e)
       go false d e = refl
@@ -156,7 +156,7 @@ module _ (edition : ℕ) (bytes : List ℕ) (header : 7 ≤ length bytes) where
       ∙ ap (answer_of bytes) (sym (told (token_count bytes) 0 (omega arith) start_state valid_start) ∙ ap (λ a. check_from a 0 (tokens_of edition bytes)) start_is)
 
   -- a first token whose opcode is not listed
-  pub unlisted_refused : opens_unlisted bytes ≡ true → Refused (refusal 9 0 0) ≡ judged_by edition bytes
+  pub unlisted_refused : opens_unlisted bytes ≡ true → Err (refusal 9 0 0) ≡ judged_by edition bytes
   unfolding opens_unlisted fault_of_fields step_of steps_over is_clean token_fault undecoded_fault judged_by finish_of
   unlisted_refused e =
       let long = leb 31 (length bytes) in
