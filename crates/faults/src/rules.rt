@@ -7,7 +7,7 @@ ghost use Rattle.faults.specs.Rules.{opcode_too_new, opcode_not_for_stage, desti
 
 use crate::profile::Profile;
 use layout::opcodes;
-use layout::record::{Destination, DirectSource, IndexedSource, Sampler};
+use layout::record::{DirectSource, IndexedSource, MaskedRegister, Sampler};
 
 // The rules that ask what an edition gives a stage.
 impl Profile {
@@ -26,15 +26,12 @@ impl Profile {
     }
 
     // 14
-    pub(crate) fn destination_wrong(self, destination: Destination) -> bool
+    pub(crate) fn destination_wrong(self, destination: Option<MaskedRegister>) -> bool
         ensures { result ≡ destination_wrong (count_in self) self.stage destination }
     {
-        match destination {
-            Destination::Unused => false,
-            Destination::Masked(r) => {
-                !registers::is_writable(r.kind, self.stage) || self.count_of(r.kind) <= r.number
-            }
-        }
+        destination.is_some_and(|r| {
+            !registers::is_writable(r.kind, self.stage) || self.count_of(r.kind) <= r.number
+        })
     }
 
     // 16
@@ -68,13 +65,10 @@ impl Profile {
 }
 
 // 15
-pub(crate) fn mask_wrong(opcode: u32, destination: Destination) -> bool
+pub(crate) fn mask_wrong(opcode: u32, destination: Option<MaskedRegister>) -> bool
     ensures { result ≡ mask_wrong opcode destination }
 {
-    match destination {
-        Destination::Unused => false,
-        Destination::Masked(r) => is_wrong_mask(opcode, r.mask),
-    }
+    destination.is_some_and(|r| is_wrong_mask(opcode, r.mask))
 }
 
 // 15 of a mask that stands.
