@@ -168,7 +168,7 @@ impl Usable {
             & !rules::is_wrong_mask(f.opcode, r.mask)
     }
 
-    // A source that is not used is 0.
+    // A source that is not used is 0. `used` stands beside the rows, since an Option of them would be taken apart by a branch.
     #[tactic(auto, unfolding(crate::specs::computed::LawfulTests::is_lawful_source))]
     fn is_lawful_source(self, used: bool, rows: u8, field: u64) -> bool
         ensures { result ≡ is_lawful_source self.readable used rows field }
