@@ -44,25 +44,27 @@ none_broken edition stage f p s h e =
     ((taken_fault edition stage 0 s h (record_of s) (sym taken.answer)).1 ∙ right-here 0)
 
 -- so what a test tells of the fields in an edition and a stage, it tells wherever they are usable
-told : (test : Usable → Bool) (f : Fields) → ((edition stage : ℕ) → test (usable_in edition stage) ≡ true → Lawful edition stage f)
+told : (test : Usable → Bool) (f : Fields) {branch used : Bool} {Enough : Written → Type 0}
+    → ((edition stage : ℕ) → test (usable_in edition stage) ≡ true → ToldLawful edition stage branch used Enough f)
     → (usable : Usable) → test usable ≡ true → LawfulWith usable f
 unfolding LawfulWith
-told test f law usable e edition stage of = law edition stage (ap test (sym of) ∙ e)
+told test f law usable e edition stage of = none_broken edition stage f (law edition stage (ap test (sym of) ∙ e))
 
-pub means_lawful : (u : Usable) (f : Fields) → is_lawful u f ≡ true → LawfulWith u f
-means_lawful u f = told (λ u. is_lawful u f) f (λ edition stage e. none_broken edition stage f (lawful edition stage f e)) u
+module _ (u : Usable) (f : Fields) where
+  pub means_lawful : is_lawful u f ≡ true → LawfulWith u f
+  means_lawful = told (λ u. is_lawful u f) f (λ edition stage. lawful edition stage f) u
 
-pub matrix_means_lawful : (u : Usable) (f : Fields) → is_lawful_matrix u f ≡ true → LawfulWith u f
-matrix_means_lawful u f = told (λ u. is_lawful_matrix u f) f (λ edition stage e. none_broken edition stage f (lawful_matrix edition stage f e)) u
+  pub matrix_means_lawful : is_lawful_matrix u f ≡ true → LawfulWith u f
+  matrix_means_lawful = told (λ u. is_lawful_matrix u f) f (λ edition stage. lawful_matrix edition stage f) u
 
-pub tex_means_lawful : (u : Usable) (f : Fields) → is_lawful_tex u f ≡ true → LawfulWith u f
-tex_means_lawful u f = told (λ u. is_lawful_tex u f) f (λ edition stage e. none_broken edition stage f (lawful_tex edition stage f e)) u
+  pub tex_means_lawful : is_lawful_tex u f ≡ true → LawfulWith u f
+  tex_means_lawful = told (λ u. is_lawful_tex u f) f (λ edition stage. lawful_tex edition stage f) u
 
-pub kil_means_lawful : (u : Usable) (f : Fields) → is_lawful_kil u f ≡ true → LawfulWith u f
-kil_means_lawful u f = told (λ u. is_lawful_kil u f) f (λ edition stage e. none_broken edition stage f (lawful_kil edition stage f e)) u
+  pub kil_means_lawful : is_lawful_kil u f ≡ true → LawfulWith u f
+  kil_means_lawful = told (λ u. is_lawful_kil u f) f (λ edition stage. lawful_kil edition stage f) u
 
-pub indexed_means_lawful : (u : Usable) (f : Fields) → is_lawful_indexed u f ≡ true → LawfulWith u f
-indexed_means_lawful u f = told (λ u. is_lawful_indexed u f) f (λ edition stage e. none_broken edition stage f (lawful_indexed edition stage f e)) u
+  pub indexed_means_lawful : is_lawful_indexed u f ≡ true → LawfulWith u f
+  indexed_means_lawful = told (λ u. is_lawful_indexed u f) f (λ edition stage. lawful_indexed edition stage f) u
 
-pub branch_means_lawful : (u : Usable) (f : Fields) → is_lawful_branch u f ≡ true → LawfulWith u f
-branch_means_lawful u f = told (λ u. is_lawful_branch u f) f (λ edition stage e. none_broken edition stage f (lawful_branch edition stage f e)) u
+  pub branch_means_lawful : is_lawful_branch u f ≡ true → LawfulWith u f
+  branch_means_lawful = told (λ u. is_lawful_branch u f) f (λ edition stage. lawful_branch edition stage f) u

@@ -119,6 +119,6 @@ is_lawful_branch u f =
 
 -- ---- what the answer "yes" means: the token is lawful
 
--- in each edition and stage that these are of
+-- in each edition and stage where this is what a token may use
 unfoldable pub LawfulWith : Usable → Fields → Type 0
 LawfulWith usable f = (edition stage : ℕ) → usable ≡ usable_of (profile_of edition stage) → Lawful edition stage f
