@@ -1,15 +1,15 @@
 -- The decimal notation of a number: `decimal` is the one and only, and its digits counted from the largest unit.
 -- Assumes nothing.
 use Prim.Native.Nat.{ℕ, zero, suc, ◌+◌, ◌-◌, ◌*◌, ◌/◌, ◌%◌, ◌^◌, ◌<◌, ◌≤◌}
-use mathlib.Core.Bool.{Bool}
 use mathlib.Core.List.{List, [], ◌∷◌, ◌++◌, append-nil, append_assoc}
-use mathlib.Core.Path.{◌≡◌, ◌∙◌, sym, ap}
+use mathlib.Core.Path.{◌≡◌, refl, ◌∙◌, sym, ap}
 use native.Mathlib.Decide.{dec_lt, dec_le}
 use native.Mathlib.Omega.{arith}
-use lib.IntN.{ℤ}
+use lib.IntN.{ℤ, pos, negsuc, nat_abs}
+use lib.Signed.{lt_z}
 use lib.Pow.{pow-add}
 use borrow.Author.Tests.{lt-ltb, le-ltb, le-leb, lt-leb}
-use Rattle.listing.specs.Decimal.{digit, AreDigits, said_after, NoLeadingZero, IsDecimal, notation, decimal, is_negative, magnitude, signed_decimal}
+use Rattle.listing.specs.Decimal.{digit, AreDigits, said_after, NoLeadingZero, IsDecimal, notation, decimal, signed_decimal}
 use Rattle.listing.specs.computed.Writers.{digit_at}
 use Rattle.listing.specs.Text.{ascii, when}
 
@@ -103,9 +103,10 @@ unique n (b ∷ (d ∷ ds)) i =
 
 -- ---- a signed number
 
-pub signed : (z : ℤ) {negative : Bool} {n : ℕ} → negative ≡ is_negative z → n ≡ magnitude z → signed_decimal z ≡ when negative (ascii "-") ++ decimal n
+pub signed : (z : ℤ) → signed_decimal z ≡ when (lt_z z (pos 0)) (ascii "-") ++ decimal (nat_abs z)
 unfolding signed_decimal
-signed z e f = rw (e, f)
+signed (pos n) = simp (le-ltb n 0 (omega arith)) refl
+signed (negsuc n) = refl
 
 -- ---- digits by their units
 

@@ -2,7 +2,7 @@
 ghost use Rattle.listing.specs.Printing.{Prints};
 
 use crate::answers::Printed;
-use crate::text;
+use crate::text::Writer;
 
 pub(crate) fn print(text: &[u8], out: &mut [u8]) -> Printed
     ensures { Prints text.now out.old out.new result }
@@ -10,5 +10,7 @@ pub(crate) fn print(text: &[u8], out: &mut [u8]) -> Printed
     if out.len() < text.len() {
         return Printed::Refused(bytecode::refusal(23, 0, 0));
     }
-    Printed::Length(text::put_bytes(out, 0, text))
+    let mut w = Writer::new(out);
+    w.bytes(text);
+    Printed::Length(w.length())
 }
