@@ -1,13 +1,13 @@
 -- The code's tables of names are the specification's, by tests that antt computes over all their rows.
 -- Assumes nothing.
-use Prim.Native.Nat.{ℕ, min, zero, suc, ◌+◌, ◌-◌, ◌*◌, ◌<◌, ◌≤◌}
+use Prim.Native.Nat.{ℕ, min, zero, suc, ◌+◌, ◌-◌, ◌*◌, ◌≤◌}
 use mathlib.Core.Bool.{Bool, true, false, cond, ◌&&◌, ◌||◌}
 use mathlib.Core.List.{List, [], ◌∷◌, ◌++◌}
 use mathlib.Core.Path.{◌≡◌, refl, subst, sym}
 use native.Mathlib.Decide.{dec_lt}
 use native.Mathlib.Omega.{arith}
 use Rattle.std.proofs.lemmas.Bool.{ne_eqb}
-use lib.Dec.{T, eqb, ltb, eqb→eq, ltb→lt}
+use lib.Dec.{T, eqb, eqb→eq}
 use lib.ListN.{length, take, drop, get_or-eq_default}
 use Rattle.layout.specs.Opcodes.{is_in, is_listed, first_opcodes, added_opcodes}
 use Rattle.laws.proofs.Every.{both_left, both_right}
@@ -44,10 +44,6 @@ opcodes = ascii "movaddsubmuldivrcpminmaxfrcsqtrsqpowlogexpnrmsincoscrsdp3dp4abs
 module _ (o : ℕ) (listed : is_listed o ≡ true) where
   listed_rule : (f : ℕ → Bool) → T (all f (first_opcodes ++ added_opcodes)) → T (f o)
   listed_rule f t = member f (first_opcodes ++ added_opcodes) t o (subst T (sym listed) tt)
-
-  pub in_table : o < 46
-  unfolding all
-  in_table = ltb→lt o 46 (listed_rule (λ k. ltb k 46) tt)
 
   pub opcode_name_lem : take (3 * o + 3 - 3 * o) (drop (3 * o) opcodes) ≡ opcode_name o
   unfolding all opcode_name

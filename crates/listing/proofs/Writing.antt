@@ -85,10 +85,6 @@ pub from_start : {item before after : List ℕ} {most n : ℕ} {u v : Writer} �
     Appends item most 0 before after n
 from_start e b z a l = rw (← b, ← a, l, ← z) e.appends
 
--- nothing was written
-pub nothing : (w : Writer) → Writes [] 0 w w
-nothing w = record { same = refl; size = refl; appends = none w.out.now w.at 0 }
-
 -- a part of equal bytes
 pub take-replicate : (n m b : ℕ) → n ≤ m → take n (replicate m b) ≡ replicate n b
 take-replicate zero m b h = refl
