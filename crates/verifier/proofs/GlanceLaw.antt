@@ -5,7 +5,8 @@ use mathlib.Core.Bool.{Bool, true, false, not, false≢true}
 use mathlib.Core.List.{List}
 use mathlib.Core.Path.{◌≡◌, refl, ◌∙◌, sym, ap, ap₂, subst}
 use native.Mathlib.Omega.{arith}
-use borrow.Author.Tests.{eq-eqb, not-true}
+use borrow.Author.Tests.{not-true}
+use Rattle.std.specs.Prelude.{None}
 use Rattle.bytecode.specs.Decode.{no_refusal}
 use Rattle.bytecode.specs.computed.CleanFields.{is_clean}
 use Rattle.bytecode.specs.Fields.{fields_of}
@@ -56,12 +57,12 @@ right1 w f reads = sym (lacks_reads1 w (token_of (shape_of f.opcode) f)) ∙ rea
 right2 : (w : Written) (f : Fields) → ReadsWritten w f → lacks_access w (access2_of (token_of (shape_of f.opcode) f)) ≡ false
 right2 w f reads = sym (lacks_reads2 w (token_of (shape_of f.opcode) f)) ∙ reads.1
 
-module _ (st : State) (sound : st.fault.number ≡ 0) (token : ℕ) where
+module _ (st : State) (sound : st.fault ≡ None) (token : ℕ) where
   -- a token that decode takes and that has none of faults 10 to 19
   taken : (edition stage : ℕ) (f : Fields) → is_clean (shape_of f.opcode) f ≡ true → own_fault (profile_of edition stage) token (token_of (shape_of f.opcode) f) ≡ no_refusal
       → step_of st (profile_of edition stage) token f ≡ follow_of st token (token_of (shape_of f.opcode) f)
   unfolding fault_of_fields step_of
-  taken edition stage f e q = rw (eq-eqb st.fault.number 0 sound, e, q)
+  taken edition stage f e q = rw (sound, e, q)
 
   -- a token that is in its place and reads nothing unwritten
   follow_right : (t : Token) (flow : Flow) → flow_of t.opcode ≡ flow → is_misplaced st flow ≡ false
@@ -104,7 +105,7 @@ module _ (st : State) (sound : st.fault.number ≡ 0) (token : ℕ) where
 -- what the code answers of a lawful token
 passed : (edition stage : ℕ) (unwritten : Written → Fields → Bool) (f : Fields) → LawfulToken edition stage unwritten f
     → (current : Written) (b : Bool) → b ≡ unwritten current f → (r : Passed) → r ≡ passed_unless b current f → r.known ≡ true
-    → (st : State) → st.fault.number ≡ 0 → st.current ≡ current → (token : ℕ) → step_of st (profile_of edition stage) token f ≡ with_current st r.current
+    → (st : State) → st.fault ≡ None → st.current ≡ current → (token : ℕ) → step_of st (profile_of edition stage) token f ≡ with_current st r.current
 passed edition stage unwritten f p current true u r e k st sound at token = absurd (false≢true (sym (ap (λ r. r.known) e) ∙ k))
 passed edition stage unwritten f p current false u r e k st sound at token =
     passes st sound token edition stage true (λ w. unwritten w f ≡ false) f p (ap (λ w. unwritten w f) at ∙ sym u)

@@ -31,6 +31,7 @@ pub fn check(edition: u32, bytes: &[u8]) -> Checked
 
 // Whether the opcode of the first token is not listed. Bytes that are no program show there, and are refused before registers are counted and
 // a state is made.
+#[tactic(auto, unfolding(crate::specs::computed::Steps::opens_unlisted))]
 fn opens_unlisted(bytes: &[u8]) -> bool
     ensures { result ≡ opens_unlisted bytes.now }
 {
@@ -44,6 +45,7 @@ fn opens_unlisted(bytes: &[u8]) -> bool
 }
 
 // Faults 9 to 22 of a program that has a header.
+#[tactic(auto, unfolding(crate::specs::computed::Steps::judged_by))]
 fn check_tokens(edition: u32, bytes: &[u8]) -> Checked
     requires in_bounds { 7 ≤ length bytes.now }
     requires bytes_bound { token_count bytes.now < 65536 }
@@ -76,22 +78,17 @@ fn last_state(profile: Profile, usable: Usable, bytes: &[u8], count: usize) -> S
         let innermost = state.innermost;
         match glance::known_branch(profile, usable, state.depth, innermost, state.current, f) {
             Flow::Opener => {
-                let place = state::slot(state.depth);
-                let kept = innermost.kept;
-                state.kept[place] = kept;
-                state.openers[place] = innermost.opener;
-                state.els_met[place] = innermost.els_met;
+                state.around[state::slot(state.depth)] = innermost;
                 state = state.entered(run.token as u16);
             }
             Flow::Els => state = state.exchanged(),
             Flow::Eif => {
-                let place = state::slot_around(state.depth);
-                let kept = state.kept[place];
-                state = state.closed(kept, state.openers[place], state.els_met[place]);
+                let around = state.around[state::slot_around(state.depth)];
+                state = state.closed(around);
             }
             Flow::Plain => {
                 let next = state.step(profile, run.token as u16, f);
-                if next.fault.number != 0 {
+                if next.fault.is_some() {
                     return next;
                 }
                 state = next;
@@ -102,17 +99,16 @@ fn last_state(profile: Profile, usable: Usable, bytes: &[u8], count: usize) -> S
 
 impl State {
     // The answer after the last token: the fault that was met, or 22 where a branch is still open, at its opener.
+    #[tactic(auto, unfolding(crate::specs::computed::Steps::finish_of))]
     pub(crate) fn finish(self, stage: u8, tokens: usize) -> Checked
         ensures { result ≡ finish_of self stage tokens }
     {
-        let fault = self.fault;
-        if fault.number != 0 {
+        if let Some(fault) = self.fault {
             return Checked::Refused(fault);
         }
         if self.depth == 0 {
             return Checked::Accepted(Program { stage, tokens });
         }
-        let innermost = self.innermost;
-        Checked::Refused(bytecode::refusal(22, innermost.opener as usize, 0))
+        Checked::Refused(bytecode::refusal(22, self.innermost.opener as usize, 0))
     }
 }

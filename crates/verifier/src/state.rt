@@ -3,49 +3,48 @@
 // every state and every number. Only what is known at a glance is stored by the check's loop itself: the set at hand after a run, and the
 // branch that an opener puts away.
 ghost use Rattle.std.specs.Prelude.{cond, ◌≡◌, ◌<◌};
-ghost use Rattle.layout.specs.Records.{destination_of};
-ghost use Rattle.verifier.specs.computed.State.{slot_of, slot_around, is_out_of_place, set_met, branch, with_fault, exchanged_state, closed_state, joined_state, met_state, entered_state, opened_state, parted_state, written_by, wrote_state};
+ghost use Rattle.verifier.specs.computed.State.{slot_of, slot_around, is_out_of_place, set_met, with_fault, exchanged_state, closed_state, joined_state, met_state, entered_state, opened_state, parted_state, written_by, wrote_state};
 
 use bytecode::answers::Refusal;
 use components::written;
 use components::written::Written;
 use layout::opcodes::Flow;
-use layout::record::MaskedRegister;
+use layout::record::{Destination, MaskedRegister};
 
-// An open branch: the set kept for the path that does not come by here, its opener's token number, and whether its els was met, 0 if not.
+// An open branch: the set kept for the path that does not come by here, its opener's token number, and whether its els was met.
 #[derive(Clone, Copy)]
 pub struct Branch {
     pub kept: Written,
     pub opener: u16,
-    pub els_met: u8,
+    pub els_met: bool,
 }
 
-// The innermost of the open branches stands by itself, since most tokens that change a branch change that one. The arrays have those around
-// it, the outermost first. A fault with number 0 is none.
+// The innermost of the open branches stands by itself, since most tokens that change a branch change that one. The array has those around
+// it, the outermost first. The fault is the first that was met.
 #[derive(Clone, Copy)]
 pub struct State {
     pub current: Written,
     pub innermost: Branch,
     pub depth: usize,
-    pub kept: [Written; 16],
-    pub openers: [u16; 16],
-    pub els_met: [u8; 16],
-    pub fault: Refusal,
+    pub around: [Branch; 16],
+    pub fault: Option<Refusal>,
 }
+
+const NONE_WRITTEN: Written = Written { low: 0, high: 0 };
+
+const NO_BRANCH: Branch = Branch {
+    kept: NONE_WRITTEN,
+    opener: 0,
+    els_met: false,
+};
 
 // Before the first token nothing is written, no branch is open and there is no fault.
 pub const START: State = State {
-    current: Written { low: 0, high: 0 },
-    innermost: Branch {
-        kept: Written { low: 0, high: 0 },
-        opener: 0,
-        els_met: 0,
-    },
+    current: NONE_WRITTEN,
+    innermost: NO_BRANCH,
     depth: 0,
-    kept: [Written { low: 0, high: 0 }; 16],
-    openers: [0; 16],
-    els_met: [0; 16],
-    fault: bytecode::NO_REFUSAL,
+    around: [NO_BRANCH; 16],
+    fault: None,
 };
 
 // Where the innermost of so many open branches is put when another is opened in it. Every number has a place.
@@ -63,13 +62,13 @@ pub(crate) fn slot_around(depth: usize) -> usize
 }
 
 // Fault 20, by the number of open branches and whether the els of the innermost was met.
-pub(crate) fn is_misplaced(flow: Flow, depth: usize, els_met: u8) -> bool
+pub(crate) fn is_misplaced(flow: Flow, depth: usize, els_met: bool) -> bool
     ensures { result ≡ is_out_of_place flow depth els_met }
 {
     match flow {
         Flow::Plain => false,
         Flow::Opener => 16 <= depth,
-        Flow::Els => (depth < 1) | (els_met != 0),
+        Flow::Els => (depth < 1) | els_met,
         Flow::Eif => depth < 1,
     }
 }
@@ -79,8 +78,7 @@ pub(crate) fn set_met(flow: Flow, current: Written, kept: Written) -> Written
     ensures { result ≡ set_met flow current kept }
 {
     match flow {
-        Flow::Plain => current,
-        Flow::Opener => current,
+        Flow::Plain | Flow::Opener => current,
         Flow::Els => kept,
         Flow::Eif => written::join(current, kept),
     }
@@ -91,7 +89,7 @@ impl State {
     pub(crate) fn refused(mut self, fault: Refusal) -> State
         ensures { result ≡ with_fault self fault }
     {
-        self.fault = fault;
+        self.fault = Some(fault);
         self
     }
 
@@ -100,8 +98,7 @@ impl State {
         ensures { result ≡ met_state self flow }
     {
         match flow {
-            Flow::Plain => self,
-            Flow::Opener => self,
+            Flow::Plain | Flow::Opener => self,
             Flow::Els => self.exchanged(),
             Flow::Eif => self.joined(),
         }
@@ -112,15 +109,12 @@ impl State {
         ensures { result ≡ exchanged_state self }
     {
         let current = written::by_halves(self.current);
-        let innermost = self.innermost;
-        let kept = written::by_halves(innermost.kept);
-        let in_second = Branch {
+        self.current = written::by_halves(self.innermost.kept);
+        self.innermost = Branch {
             kept: current,
-            opener: innermost.opener,
-            els_met: 1,
+            opener: self.innermost.opener,
+            els_met: true,
         };
-        self.current = kept;
-        self.innermost = in_second;
         self
     }
 
@@ -128,29 +122,19 @@ impl State {
     pub(crate) fn joined(self) -> State
         ensures { result ≡ joined_state self }
     {
-        let place = slot_around(self.depth);
-        let kept = self.kept[place];
-        let opener = self.openers[place];
-        let els_met = self.els_met[place];
-        self.closed(kept, opener, els_met)
+        let around = self.around[slot_around(self.depth)];
+        self.closed(around)
     }
 
     // The sets of both blocks are joined, and the branch around this one, which is handed in, is the innermost again.
-    pub(crate) fn closed(mut self, kept: Written, opener: u16, els_met: u8) -> State
-        ensures { result ≡ closed_state self (branch kept opener els_met) }
+    pub(crate) fn closed(mut self, around: Branch) -> State
+        ensures { result ≡ closed_state self around }
     {
-        let current = self.current;
-        let innermost = self.innermost;
-        let other = innermost.kept;
-        let both = written::join(current, other);
-        let kept = written::by_halves(kept);
-        let around = Branch {
-            kept,
-            opener,
-            els_met,
+        self.current = written::join(self.current, self.innermost.kept);
+        self.innermost = Branch {
+            kept: written::by_halves(around.kept),
+            ..around
         };
-        self.current = both;
-        self.innermost = around;
         self.depth = slot(self.depth);
         self
     }
@@ -160,10 +144,8 @@ impl State {
         ensures { result ≡ parted_state self flow token }
     {
         match flow {
-            Flow::Plain => self,
             Flow::Opener => self.opened(token),
-            Flow::Els => self,
-            Flow::Eif => self,
+            Flow::Plain | Flow::Els | Flow::Eif => self,
         }
     }
 
@@ -171,12 +153,7 @@ impl State {
     pub(crate) fn opened(mut self, token: u16) -> State
         ensures { result ≡ opened_state self token }
     {
-        let place = slot(self.depth);
-        let innermost = self.innermost;
-        let kept = innermost.kept;
-        self.kept[place] = kept;
-        self.openers[place] = innermost.opener;
-        self.els_met[place] = innermost.els_met;
+        self.around[slot(self.depth)] = self.innermost;
         self.entered(token)
     }
 
@@ -184,25 +161,21 @@ impl State {
     pub(crate) fn entered(mut self, token: u16) -> State
         ensures { result ≡ entered_state self token }
     {
-        let current = written::by_halves(self.current);
-        let opened = Branch {
-            kept: current,
+        self.innermost = Branch {
+            kept: written::by_halves(self.current),
             opener: token,
-            els_met: 0,
+            els_met: false,
         };
-        self.innermost = opened;
         self.depth = self.depth % 16 + 1;
         self
     }
 
     // With the components that a token writes, where its destination is a temporary register.
-    pub(crate) fn wrote(mut self, used: bool, field: u64) -> State
-        ensures { result ≡ wrote_state self (destination_of used field) }
+    pub(crate) fn wrote(mut self, destination: Destination) -> State
+        ensures { result ≡ wrote_state self destination }
     {
-        if used {
-            let current = self.current;
-            let more = written_by(current, layout::unpack_register(field));
-            self.current = more;
+        if let Destination::Masked(register) = destination {
+            self.current = written_by(self.current, register);
         }
         self
     }

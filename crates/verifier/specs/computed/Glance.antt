@@ -1,5 +1,5 @@
 -- What is known of a token that is passed at a glance: what its step makes of the state.
-use Rattle.std.specs.Prelude.{ℕ, ◌+◌, ◌*◌, ◌-◌, ◌≤◌, ◌<◌, Bool, true, false, List, ◌≡◌, length}
+use Rattle.std.specs.Prelude.{ℕ, ◌+◌, ◌*◌, ◌-◌, ◌≤◌, ◌<◌, Bool, true, false, List, ◌≡◌, length, None}
 use Rattle.layout.specs.Records.{register_of}
 use Rattle.layout.specs.declared.fields.Fields.{Fields}
 use Rattle.layout.specs.declared.opcodes.Flow.{Flow}
@@ -27,7 +27,7 @@ passed_unless false current f = record { known = true; current = written_by curr
 abbrev pub Whenever : Profile → Usable → Written → (Profile → State → Type 0) → Type 0
 Whenever profile usable current Holds =
     (edition stage : ℕ) → profile ≡ profile_of edition stage → usable ≡ usable_of profile
-    → (st : State) → st.fault.number ≡ 0 → st.current ≡ current → Holds (profile_of edition stage) st
+    → (st : State) → st.fault ≡ None → st.current ≡ current → Holds (profile_of edition stage) st
 
 -- the step of the token, wherever it stands and whatever branches are open, leaves this set and changes nothing else
 abbrev pub Passes : Profile → Usable → Written → Fields → Written → Type 0

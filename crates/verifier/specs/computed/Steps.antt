@@ -1,6 +1,7 @@
 -- The whole check on the state that the code keeps: a look at the first opcode, a step for each token, and what the last state answers.
-use Rattle.std.specs.Prelude.{ℕ, zero, suc, ◌+◌, Bool, not, cond, ◌&&◌, List, eqb, leb, length}
+use Rattle.std.specs.Prelude.{ℕ, zero, suc, ◌+◌, Bool, not, cond, ◌&&◌, List, eqb, leb, length, Option, Some, None}
 use Rattle.bytecode.specs.Decode.{refusal}
+use Rattle.bytecode.specs.declared.answers.Refusal.{Refusal}
 use Rattle.bytecode.specs.Fields.{fields_of}
 use Rattle.layout.specs.Opcodes.{shape_of}
 use Rattle.layout.specs.Programs.{token_at, stage_of, token_count}
@@ -22,12 +23,16 @@ unfoldable pub steps_over : Profile → List ℕ → State → ℕ → ℕ → S
 steps_over profile bytes st n zero = st
 steps_over profile bytes st n (suc left) = steps_over profile bytes (step_of st profile n (fields_of (token_at bytes n))) (n + 1) left
 
+-- a fault, if one was met, or else the answer at the end
+abbrev pub unless_met : Option Refusal → Checked → Checked
+unless_met (Some fault) end = Refused fault
+unless_met None end = end
+
 -- a fault that was met; or 22, at the opener of the innermost branch; or none
 unfoldable pub finish_of : State → ℕ → ℕ → Checked
 finish_of st stage tokens =
-    cond (eqb st.fault.number 0)
+    unless_met st.fault
     (cond (eqb st.depth 0) (Accepted (program stage tokens)) (Refused (refusal 22 st.innermost.opener 0)))
-    (Refused st.fault)
 
 -- the answer of all tokens of a program that has a header
 unfoldable pub judged_by : ℕ → List ℕ → Checked
