@@ -50,10 +50,10 @@ module _ (profile : Profile) (usable : Usable) (bytes : List ℕ) (count : ℕ) 
     known st n at Holds told = subst (λ p. Holds p st) (sym can.made) (told profile.edition profile.stage can.made can.used st at.sound refl)
 
     -- so of the step at the token of a branch
-    pub known_step : (st : State) (n : ℕ) → Reached st n → (f : Fields) (flow : Flow) → KnownBranch profile usable st.depth st.innermost st.current f flow
+    pub known_step : (st : State) (n : ℕ) → Reached st n → (f : Fields) (flow : Flow) → KnownBranch profile usable st f flow
         → branch_step flow st n (step_of st profile n f)
     known_step st n at f flow told =
-        known st n at (λ p s. s.depth ≡ st.depth → s.innermost ≡ st.innermost → (token : ℕ) → branch_step flow s token (step_of s p token f)) told refl refl n
+        subst (λ p. branch_step flow st n (step_of st p n f)) (sym can.made) (told profile.edition profile.stage can.made can.used at.sound n)
 
     -- after a run of tokens that are passed at a glance
     pub after_run : (before : State) (first : ℕ) → Reached before first → (r : Run) → RunsOver profile usable before.current bytes first count r

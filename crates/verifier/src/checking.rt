@@ -75,15 +75,14 @@ fn last_state(profile: Profile, usable: Usable, bytes: &[u8], count: usize) -> S
             return state;
         }
         let f = places::fields_at(bytes, run.token);
-        let innermost = state.innermost;
-        match glance::known_branch(profile, usable, state.depth, innermost, state.current, f) {
+        match state.known_branch(profile, usable, f) {
             Flow::Opener => {
-                state.around[state::slot(state.depth)] = innermost;
+                state.around[state.slot()] = state.innermost;
                 state = state.entered(run.token as u16);
             }
             Flow::Els => state = state.exchanged(),
             Flow::Eif => {
-                let around = state.around[state::slot_around(state.depth)];
+                let around = state.around[state.slot_around()];
                 state = state.closed(around);
             }
             Flow::Plain => {

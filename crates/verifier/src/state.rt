@@ -3,7 +3,7 @@
 // every state and every number. Only what is known at a glance is stored by the check's loop itself: the set at hand after a run, and the
 // branch that an opener puts away.
 ghost use Rattle.std.specs.Prelude.{cond, ◌≡◌, ◌<◌};
-ghost use Rattle.verifier.specs.computed.State.{slot_of, slot_around, is_out_of_place, set_met, with_fault, exchanged_state, closed_state, joined_state, met_state, entered_state, opened_state, parted_state, written_by, wrote_state};
+ghost use Rattle.verifier.specs.computed.State.{slot_of, slot_around, is_misplaced, set_met, with_fault, exchanged_state, closed_state, joined_state, met_state, entered_state, opened_state, parted_state, written_by, wrote_state};
 
 use bytecode::answers::Refusal;
 use components::written;
@@ -47,44 +47,44 @@ pub const START: State = State {
     fault: None,
 };
 
-// Where the innermost of so many open branches is put when another is opened in it. Every number has a place.
-pub(crate) fn slot(depth: usize) -> usize
-    ensures { (result ≡ slot_of depth) × (result < 16) }
-{
-    (depth % 16 + 15) % 16
-}
-
-// Where the branch around it stands.
-pub(crate) fn slot_around(depth: usize) -> usize
-    ensures { (result ≡ slot_around depth) × (result < 16) }
-{
-    (depth % 16 + 14) % 16
-}
-
-// Fault 20, by the number of open branches and whether the els of the innermost was met.
-pub(crate) fn is_misplaced(flow: Flow, depth: usize, els_met: bool) -> bool
-    ensures { result ≡ is_out_of_place flow depth els_met }
-{
-    match flow {
-        Flow::Plain => false,
-        Flow::Opener => 16 <= depth,
-        Flow::Els => (depth < 1) | els_met,
-        Flow::Eif => depth < 1,
-    }
-}
-
-// The set at hand as a token is met: els takes up the set that was kept, eif joins the sets of both blocks.
-pub(crate) fn set_met(flow: Flow, current: Written, kept: Written) -> Written
-    ensures { result ≡ set_met flow current kept }
-{
-    match flow {
-        Flow::Plain | Flow::Opener => current,
-        Flow::Els => kept,
-        Flow::Eif => written::join(current, kept),
-    }
-}
-
 impl State {
+    // Where the innermost branch is put when another is opened in it. Every number of open branches has a place.
+    pub(crate) fn slot(&self) -> usize
+        ensures { (result ≡ slot_of self.now.depth) × (result < 16) }
+    {
+        (self.depth % 16 + 15) % 16
+    }
+
+    // Where the branch around it stands.
+    pub(crate) fn slot_around(&self) -> usize
+        ensures { (result ≡ slot_around self.now.depth) × (result < 16) }
+    {
+        (self.depth % 16 + 14) % 16
+    }
+
+    // Fault 20.
+    pub(crate) fn is_misplaced(&self, flow: Flow) -> bool
+        ensures { result ≡ is_misplaced self.now flow }
+    {
+        match flow {
+            Flow::Plain => false,
+            Flow::Opener => 16 <= self.depth,
+            Flow::Els => (self.depth < 1) | self.innermost.els_met,
+            Flow::Eif => self.depth < 1,
+        }
+    }
+
+    // The set at hand as a token is met: els takes up the set that was kept, eif joins the sets of both blocks.
+    pub(crate) fn set_met(&self, flow: Flow) -> Written
+        ensures { result ≡ set_met flow self.now.current self.now.innermost.kept }
+    {
+        match flow {
+            Flow::Plain | Flow::Opener => self.current,
+            Flow::Els => self.innermost.kept,
+            Flow::Eif => written::join(self.current, self.innermost.kept),
+        }
+    }
+
     // The same state with a fault.
     pub(crate) fn refused(mut self, fault: Refusal) -> State
         ensures { result ≡ with_fault self fault }
@@ -122,7 +122,7 @@ impl State {
     pub(crate) fn joined(self) -> State
         ensures { result ≡ joined_state self }
     {
-        let around = self.around[slot_around(self.depth)];
+        let around = self.around[self.slot_around()];
         self.closed(around)
     }
 
@@ -135,7 +135,7 @@ impl State {
             kept: written::by_halves(around.kept),
             ..around
         };
-        self.depth = slot(self.depth);
+        self.depth = self.slot();
         self
     }
 
@@ -153,7 +153,7 @@ impl State {
     pub(crate) fn opened(mut self, token: u16) -> State
         ensures { result ≡ opened_state self token }
     {
-        self.around[slot(self.depth)] = self.innermost;
+        self.around[self.slot()] = self.innermost;
         self.entered(token)
     }
 

@@ -3,7 +3,6 @@ ghost use Rattle.std.specs.Prelude.{◌≡◌};
 ghost use Rattle.bytecode.specs.Decode.{outcome as outcome_of};
 ghost use Rattle.verifier.specs.computed.Step.{first_of, made_of, fault_of_fields, paths_fault, step_of};
 
-use crate::state;
 use crate::state::State;
 use bytecode::answers::Refusal;
 use components::access;
@@ -46,10 +45,10 @@ impl State {
         ensures { result ≡ paths_fault self.now token (made_of raw) }
     {
         let flow = opcodes::flow_of(raw.fields.opcode);
-        if state::is_misplaced(flow, self.depth, self.innermost.els_met) {
+        if self.is_misplaced(flow) {
             return Err(bytecode::refusal(20, token as usize, 0));
         }
-        let met = state::set_met(flow, self.current, self.innermost.kept);
+        let met = self.set_met(flow);
         if access::reads_unwritten1(met, raw.shape, raw.fields) {
             return Err(bytecode::refusal(21, token as usize, 2));
         }

@@ -24,7 +24,7 @@ goes : (x : After-fields_at-f) (next : State) → next ≡ step_of (st x) x.args
 goes x = after_step _ _ _ _ _ _ (at x) x.if-count-token.false _ x.fields_at-f.ensures
 
 -- where its flow is known
-met : (x : After-fields_at-f) (flow : Flow) → KnownBranch x.args.profile x.args.usable (st x).depth (st x).innermost (st x).current x.fields_at-f.result flow
+met : (x : After-fields_at-f) (flow : Flow) → KnownBranch x.args.profile x.args.usable (st x) x.fields_at-f.result flow
     → branch_step flow (st x) x.pass_tokens-run.result.token (step_of (st x) x.args.profile x.pass_tokens-run.result.token x.fields_at-f.result)
 met x flow = known_step _ _ _ _ x.requires _ _ (at x) _ flow
 
