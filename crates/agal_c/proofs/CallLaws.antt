@@ -1,5 +1,6 @@
 -- What the exported functions answer, from what the functions that they call answer.
 -- Assumes nothing.
+use Rattle.std.specs.Prelude.{Err, Ok, Result, ⊤}
 use Prim.Native.Nat.{ℕ, ◌+◌, ◌*◌, ◌/◌, ◌%◌, ◌<◌, ◌≤◌}
 use mathlib.Core.Bool.{Bool, true, false, not, cond, false≢true, and-false}
 use mathlib.Core.List.{List, [], ◌++◌}
@@ -18,12 +19,7 @@ use Rattle.bytecode.specs.Decode.{refusal, no_refusal, lowest_part, unused_part,
 use Rattle.bytecode.specs.Encode.{Encodes}
 use Rattle.layout.specs.declared.record.Token.{Token}
 use Rattle.bytecode.specs.declared.answers.Refusal.{Refusal}
-use Rattle.bytecode.specs.declared.answers.Decoded.{Decoded}
-use Rattle.bytecode.specs.declared.answers.Decoded.TheVariants.{Token as Read, Refused as NotRead}
-use Rattle.bytecode.specs.declared.answers.Encoded.{Encoded}
 use Rattle.listing.specs.Line.{is_nameable, Lists}
-use Rattle.listing.specs.declared.answers.Printed.{Printed}
-use Rattle.listing.specs.declared.answers.Printed.TheVariants.{Refused as NotPrinted}
 use Rattle.listing.proofs.LineLaws.{not_nameable}
 use Rattle.bytecode.proofs.DecodeLaws.{wrong_length, with_fault_lem, no_faults, clean_none, clean_by, not_clean}
 use Rattle.layout.specs.Programs.{token_start, no_token_left}
@@ -50,14 +46,14 @@ module _ (s : List ℕ) (whole : length s ≡ 24) (f : Fields) (k : Shape) (ef :
       let r : (shape_of (fields_of s).opcode).listed ≡ listed = cc in
       simp (eq-eqb (length s) 24 whole, r)
 
-  pub faulty : is_clean k f ≡ false → decode_of s ≡ NotRead (token_fault k f)
+  pub faulty : is_clean k f ≡ false → decode_of s ≡ Err (token_fault k f)
   faulty q =
       let e = its_fields in
       let q' : is_clean (shape_of (fields_of s).opcode) (fields_of s) ≡ false = cc in
       let r = (with_fault_lem s whole (not_clean _ _ q')).answer in
       cc
 
-  pub fine : is_clean k f ≡ true → decode_of s ≡ Read (token_of k f)
+  pub fine : is_clean k f ≡ true → decode_of s ≡ Ok (token_of k f)
   fine q =
       let e = its_fields in
       let q' : is_clean (shape_of (fields_of s).opcode) (fields_of s) ≡ true = cc in
@@ -67,11 +63,11 @@ module _ (s : List ℕ) (whole : length s ≡ 24) (f : Fields) (k : Shape) (ef :
 -- ---- a token, into a lent buffer
 
 module _ (s buffer : List ℕ) where
-  pub not_read : (r : Refusal) → decode_of s ≡ NotRead r
+  pub not_read : (r : Refusal) → decode_of s ≡ Err r
       → (r.number + 256 * r.part ≡ delivery_code (decode_of s) buffer) × (buffer ≡ delivered (decode_of s) buffer)
   not_read r e = rw e (refl, refl)
 
-  module _ (t : Token) (e : decode_of s ≡ Read t) where
+  module _ (t : Token) (e : decode_of s ≡ Ok t) where
     pub no_room : length buffer < 29 → (23 ≡ delivery_code (decode_of s) buffer) × (buffer ≡ delivered (decode_of s) buffer)
     no_room h = let l = lt-ltb (length buffer) 29 h in rw e (simp l, simp l)
 
@@ -119,9 +115,9 @@ fault_again number part place next n hn hp =
     rw (ne_eqb code 0 (λ z. n (omega arith)), en, ep) refl
 
 -- the bytes are the same, wherever the token stands
-same_bytes : (place : ℕ) (d : Decoded) (buffer : List ℕ) → delivered d buffer ≡ delivered (stands_at place d) buffer
-same_bytes place (Read t) buffer = refl
-same_bytes place (NotRead r) buffer = refl
+same_bytes : (place : ℕ) (d : Result Token Refusal) (buffer : List ℕ) → delivered d buffer ≡ delivered (stands_at place d) buffer
+same_bytes place (Ok t) buffer = refl
+same_bytes place (Err r) buffer = refl
 
 module _ (s buffer : List ℕ) (place step : ℕ) where
   -- the number of a delivery stands for its answer
@@ -134,7 +130,7 @@ module _ (s buffer : List ℕ) (place step : ℕ) where
       by_room false = refl
 
       go : (fine : Bool) (t : Token) → eqb (decode_fault s).number 0 ≡ fine
-          → (let d = cond fine (Read t) (NotRead (decode_fault s)) in code_answer (delivery_code d buffer) place (place + step) ≡ delivery_answer place step (stands_at place d) buffer)
+          → (let d = cond fine (Ok t) (Err (decode_fault s)) in code_answer (delivery_code d buffer) place (place + step) ≡ delivery_answer place step (stands_at place d) buffer)
       go true t e = by_room (ltb (length buffer) 29)
       go false t e = fault_again _ _ place (place + step) (eqb-false (decode_fault s).number 0 e) (fault_bytes s).0 (fault_bytes s).1
 
@@ -161,17 +157,17 @@ module _ (s : List ℕ) where
       go false w z = absurd (omega (arith, z))
 
   -- what is told outright is what decode answers
-  told : (outright_fault s ≡ 0 → ⊥) → decode_of s ≡ NotRead (refusal (outright_fault s) 0 0)
+  told : (outright_fault s ≡ 0 → ⊥) → decode_of s ≡ Err (refusal (outright_fault s) 0 0)
   unfolding outright_fault token_fault
   told n = go (eqb (length s) 24) (shape_of (fields_of s).opcode).listed refl refl n
     where
       go : (whole listed : Bool) → eqb (length s) 24 ≡ whole → (shape_of (fields_of s).opcode).listed ≡ listed → (◌≡◌ {A = ℕ} (cond whole (cond listed 0 9) 24) 0 → ⊥)
-          → decode_of s ≡ NotRead (refusal (cond whole (cond listed 0 9) 24) 0 0)
+          → decode_of s ≡ Err (refusal (cond whole (cond listed 0 9) 24) 0 0)
       go false listed w l n = sym (wrong_length s (eqb-false (length s) 24 w)).answer
       go true true w l n = absurd (n refl)
       go true false w l n =
           let r : token_fault (shape_of (fields_of s).opcode) (fields_of s) ≡ refusal 9 0 0 = rw l refl in
-          sym (with_fault_lem s (eqb-true (length s) 24 w) (λ z. omega (arith, ap (λ r. r.number) r, z))).answer ∙ ap NotRead r
+          sym (with_fault_lem s (eqb-true (length s) 24 w) (λ z. omega (arith, ap (λ r. r.number) r, z))).answer ∙ ap Err r
 
   pub told_outright : (buffer : List ℕ) (place step fault : ℕ) (r : Answer) → fault ≡ outright_fault s → (fault ≡ 0 → ⊥) → r ≡ refused (refusal fault place 0) place
       → (r ≡ delivery_answer place step (stands_at place (decode_of s)) buffer) × (buffer ≡ delivered (stands_at place (decode_of s)) buffer)
@@ -207,12 +203,12 @@ module _ (flat buffer : List ℕ) where
     not_listed stage depth = (simp e, simp e)
 
   module _ (e : is_flat flat ≡ true) where
-    pub encoded : (t : Token) → t ≡ token_of_flat flat → (after : List ℕ) (r : Encoded) → Encodes t buffer after r
+    pub encoded : (t : Token) → t ≡ token_of_flat flat → (after : List ℕ) (r : Result ⊤ Refusal) → Encodes t buffer after r
         → (encoded_answer r ≡ encode_answer flat buffer) × (after ≡ after_flat_encode flat buffer)
     unfolding encode_answer after_flat_encode
     encoded t g after r p = (simp (e, ← g, ← p.answer), simp (e, ← g, p.buffer))
 
-    pub listed : (stage depth : ℕ) (t : Token) → t ≡ token_of_flat flat → (after : List ℕ) (r : Printed) → Lists t stage depth buffer after r
+    pub listed : (stage depth : ℕ) (t : Token) → t ≡ token_of_flat flat → (after : List ℕ) (r : Result ℕ Refusal) → Lists t stage depth buffer after r
         → (printed_answer r ≡ line_answer_of flat stage depth buffer) × (after ≡ after_flat_line flat stage depth buffer)
     unfolding line_answer_of after_flat_line
     listed stage depth t g after r p = (simp (e, ← g, ← p.answer), simp (e, ← g, p.buffer))
@@ -221,7 +217,7 @@ module _ (flat buffer : List ℕ) where
     no_name : (stage depth : ℕ) → is_nameable (token_of_flat flat) stage depth ≡ false
         → (refused (refusal 25 0 0) 0 ≡ line_answer_of flat stage depth buffer) × (buffer ≡ after_flat_line flat stage depth buffer)
     no_name stage depth h =
-        listed stage depth (token_of_flat flat) refl buffer (NotPrinted (refusal 25 0 0)) (not_nameable (token_of_flat flat) stage depth buffer h)
+        listed stage depth (token_of_flat flat) refl buffer (Err (refusal 25 0 0)) (not_nameable (token_of_flat flat) stage depth buffer h)
 
     pub no_stage : (stage depth : ℕ) → 255 < stage
         → (refused (refusal 25 0 0) 0 ≡ line_answer_of flat stage depth buffer) × (buffer ≡ after_flat_line flat stage depth buffer)

@@ -1,5 +1,6 @@
 -- A flat form read back gives the record that it was written from.
 -- Assumes nothing.
+use Rattle.std.specs.Prelude.{None, Option, Some}
 use Prim.Native.Nat.{ℕ, ◌+◌, ◌*◌, ◌/◌, ◌%◌, ◌<◌, ◌^◌}
 use mathlib.Core.Bool.{true}
 use mathlib.Core.List.{List, ◌++◌}
@@ -16,8 +17,7 @@ use Rattle.layout.specs.Records.{signed}
 use Rattle.bytecode.specs.Encode.{unsigned, is_signed_byte}
 use Rattle.bytecode.proofs.Words.{fields_again}
 use Rattle.layout.specs.declared.fields.Fields.{Fields}
-use Rattle.layout.specs.declared.record.Destination.{Destination}
-use Rattle.layout.specs.declared.record.Destination.TheVariants.{Unused as NoDestination, Masked}
+use Rattle.layout.specs.declared.record.MaskedRegister.{MaskedRegister}
 use Rattle.layout.specs.declared.record.Operand.{Operand}
 use Rattle.layout.specs.declared.record.Operand.TheVariants.{Unused as NoOperand, Direct, Indexed, Sampler as Sampled}
 use Rattle.layout.specs.declared.record.Token.{Token}
@@ -43,11 +43,11 @@ bias_again (negsuc n) h = eq_z→eq _ _ (below (λ n. eq_z (signed (unsigned (ne
 -- ---- destination and sources, from their bytes
 
 -- whatever stands where a source has more values than a destination
-destination_again : (d : Destination) (a b c e f : ℕ)
+destination_again : (d : Option MaskedRegister) (a b c e f : ℕ)
     → (let v = destination_values d in destination_from (values v.form (v.number % 256 + 256 * (v.number / 256)) v.first v.second a b c e f)) ≡ d
 unfolding destination_from
-destination_again NoDestination a b c e f = refl
-destination_again (Masked r) a b c e f = rw (number_again r.number) refl
+destination_again None a b c e f = refl
+destination_again (Some r) a b c e f = rw (number_again r.number) refl
 
 operand_again : (o : Operand) → BiasHeld o
     → (let v = operand_values o in operand_from (values v.form (v.number % 256 + 256 * (v.number / 256)) v.first v.second v.third v.fourth v.fifth v.sixth v.seventh)) ≡ o
@@ -57,9 +57,9 @@ operand_again (Direct s) h = rw (number_again s.number) refl
 operand_again (Indexed s) h = rw (number_again s.number) refl
 operand_again (Sampled s) h = rw (number_again s.number, bias_again s.bias h) refl
 
-destination_form : (d : Destination) → leb (destination_values d).form 1 ≡ true
-destination_form NoDestination = refl
-destination_form (Masked r) = refl
+destination_form : (d : Option MaskedRegister) → leb (destination_values d).form 1 ≡ true
+destination_form None = refl
+destination_form (Some r) = refl
 
 operand_form : (o : Operand) → leb (operand_values o).form 3 ≡ true
 operand_form NoOperand = refl
@@ -69,7 +69,7 @@ operand_form (Sampled s) = refl
 
 -- ---- a token
 
-made : (w : ℕ) (d : Destination) (a b : Operand) (t : Token) → w ≡ t.opcode → d ≡ t.destination → a ≡ t.source1 → b ≡ t.source2
+made : (w : ℕ) (d : Option MaskedRegister) (a b : Operand) (t : Token) → w ≡ t.opcode → d ≡ t.destination → a ≡ t.source1 → b ≡ t.source2
     → ◌≡◌ {A = Token} (record { opcode = w; destination = d; source1 = a; source2 = b }) t
 made w d a b t p q r s = rw (p, q, r, s) refl
 

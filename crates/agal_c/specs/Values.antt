@@ -1,9 +1,8 @@
 -- The values of a destination or a source in the flat form, and the destination or source that such values make.
-use Rattle.std.specs.Prelude.{ℕ, cond, eqb}
+use Rattle.std.specs.Prelude.{ℕ, cond, eqb, None, Option, Some}
 use Rattle.layout.specs.Records.{signed}
 use Rattle.bytecode.specs.Encode.{unsigned}
-use Rattle.layout.specs.declared.record.Destination.{Destination}
-use Rattle.layout.specs.declared.record.Destination.TheVariants.{Unused as NoDestination, Masked}
+use Rattle.layout.specs.declared.record.MaskedRegister.{MaskedRegister}
 use Rattle.layout.specs.declared.record.DirectSource.{DirectSource}
 use Rattle.layout.specs.declared.record.IndexedSource.{IndexedSource}
 use Rattle.layout.specs.declared.record.Sampler.{Sampler}
@@ -18,9 +17,9 @@ values form number a b c d e f g =
 
 -- ---- from a record: 0 unused, 1 a register or a direct source, 2 an indexed source, 3 a sampler
 
-abbrev pub destination_values : Destination → Values
-destination_values NoDestination = values 0 0 0 0 0 0 0 0 0
-destination_values (Masked r) = values 1 r.number r.mask r.kind 0 0 0 0 0
+abbrev pub destination_values : Option MaskedRegister → Values
+destination_values None = values 0 0 0 0 0 0 0 0 0
+destination_values (Some r) = values 1 r.number r.mask r.kind 0 0 0 0 0
 
 -- the bias is the byte that says it
 abbrev pub sampler_values : Sampler → Values
@@ -37,10 +36,10 @@ operand_values (Sampled s) = sampler_values s
 
 -- ---- to a record; a value that it does not have is not looked at
 
-unfoldable pub destination_from : Values → Destination
+unfoldable pub destination_from : Values → Option MaskedRegister
 destination_from v =
-    cond (eqb v.form 0) NoDestination
-    (Masked (record { number = v.number; mask = v.first; kind = v.second }))
+    cond (eqb v.form 0) None
+    (Some (record { number = v.number; mask = v.first; kind = v.second }))
 
 abbrev pub direct_from : Values → DirectSource
 direct_from v =

@@ -5,8 +5,7 @@ ghost use Rattle.agal_c.specs.Answers.{answered as answered_of, refused as refus
 ghost use Rattle.agal_c.specs.Calls.{encoded_answer, printed_answer};
 ghost use Rattle.agal_c.specs.computed.Delivery.{code_answer};
 
-use bytecode::answers::{Encoded, Refusal};
-use listing::answers::Printed;
+use bytecode::answers::Refusal;
 
 // `number` is 0 where nothing is refused. `token` and `part` are the place of a refusal, `stage` is what check found, and `value` what else
 // is answered: the token count of check, the length of what was written, or the reader's place.
@@ -62,21 +61,21 @@ pub(crate) fn delivered(code: u32, place: usize, next: usize) -> Answer
 }
 
 // What encode answered: 24 bytes are written.
-pub(crate) fn encoded(encoded: Encoded) -> Answer
+pub(crate) fn encoded(encoded: Result<(), Refusal>) -> Answer
     ensures { result ≡ encoded_answer encoded }
 {
     match encoded {
-        Encoded::Written => answered(0, 24),
-        Encoded::Refused(r) => refused(r, 0),
+        Ok(()) => answered(0, 24),
+        Err(r) => refused(r, 0),
     }
 }
 
 // What is answered of a text.
-pub(crate) fn printed(printed: Printed) -> Answer
+pub(crate) fn printed(printed: Result<usize, Refusal>) -> Answer
     ensures { result ≡ printed_answer printed }
 {
     match printed {
-        Printed::Length(n) => answered(0, n),
-        Printed::Refused(r) => refused(r, 0),
+        Ok(n) => answered(0, n),
+        Err(r) => refused(r, 0),
     }
 }

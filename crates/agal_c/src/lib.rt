@@ -17,15 +17,14 @@ ghost use Rattle.agal_c.specs.Calls.{check_answer, delivery_answer, delivered, e
 
 use crate::answers::Answer;
 use layout::record::Sampler;
-use verifier::answers::Checked;
 
 // Judges a program under an edition: its stage and token count, or the first fault.
 pub fn agal_check(edition: u32, program: &[u8]) -> Answer
     ensures { result ≡ check_answer (verdict edition program.now) }
 {
     match verifier::check(edition, program) {
-        Checked::Accepted(p) => answers::answered(p.stage, p.tokens),
-        Checked::Refused(r) => answers::refused(r, 0),
+        Ok(p) => answers::answered(p.stage, p.tokens),
+        Err(r) => answers::refused(r, 0),
     }
 }
 

@@ -3,7 +3,7 @@ ghost use Rattle.std.specs.Prelude.{◌≡◌};
 ghost use Rattle.layout.specs.Records.{sampler_of};
 ghost use Rattle.agal_c.specs.Values.{sampler_values, destination_from, sampler_from, operand_from};
 
-use layout::record::{Destination, DirectSource, IndexedSource, MaskedRegister, Operand, Sampler};
+use layout::record::{DirectSource, IndexedSource, MaskedRegister, Operand, Sampler};
 
 // `form` tells the cases of the record apart: 0 unused, 1 register or direct source, 2 indexed source, 3 sampler. The C header calls it the
 // kind, a word that is a register's type here. The values after the number stand in the order of the record; those that a case does not
@@ -40,13 +40,13 @@ pub(crate) fn sampler_values(field: u64) -> Values
 }
 
 // A destination has two values after its number.
-pub(crate) fn destination_from(v: Values) -> Destination
+pub(crate) fn destination_from(v: Values) -> Option<MaskedRegister>
     ensures { result ≡ destination_from v }
 {
     if v.form == 0 {
-        return Destination::Unused;
+        return None;
     }
-    Destination::Masked(MaskedRegister {
+    Some(MaskedRegister {
         number: v.number,
         mask: v.first,
         kind: v.second,

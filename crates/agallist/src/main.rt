@@ -1,7 +1,6 @@
 // Reads an edition digit and a program's bytes from standard input, and prints the listing or the refusal.
 #![tactic(auto)]
 
-use listing::answers::Printed;
 use std::io;
 use std::io::{Read, Write};
 
@@ -13,8 +12,8 @@ fn main(rt: HostRuntime) -> io::Result<()> {
     // The longest text that there is fits.
     let mut text = vec![in alloc; 0u8; 262178]?;
     match report::report(&input, &mut text) {
-        Printed::Length(length) => write(&mut io::writer(&rt), &text, length),
-        Printed::Refused(_) => Ok(()),
+        Ok(length) => write(&mut io::writer(&rt), &text, length),
+        Err(_) => Ok(()),
     }
 }
 

@@ -5,8 +5,8 @@
 mod print;
 mod reading;
 
-use bytecode::answers::Decoded;
-use reader::answers::Opening;
+use bytecode::answers::Refusal;
+use layout::record::Token;
 use std::io;
 use std::io::{BufWriter, Read, Write};
 
@@ -42,16 +42,16 @@ fn read_all<W: Write>(out: &mut W, program: &[u8]) -> io::Result<()> {
     Ok(())
 }
 
-fn opened<W: Write>(out: &mut W, answer: Opening) -> io::Result<()> {
+fn opened<W: Write>(out: &mut W, answer: Result<(), Refusal>) -> io::Result<()> {
     match answer {
-        Opening::Ready => print::text(out, b"open\n"),
-        Opening::Refused(r) => print::refusal(out, r),
+        Ok(()) => print::text(out, b"open\n"),
+        Err(r) => print::refusal(out, r),
     }
 }
 
-fn read<W: Write>(out: &mut W, place: usize, answer: Decoded) -> io::Result<()> {
+fn read<W: Write>(out: &mut W, place: usize, answer: Result<Token, Refusal>) -> io::Result<()> {
     match answer {
-        Decoded::Token(t) => print::token(out, place, t.opcode),
-        Decoded::Refused(r) => print::refusal(out, r),
+        Ok(t) => print::token(out, place, t.opcode),
+        Err(r) => print::refusal(out, r),
     }
 }

@@ -2,17 +2,18 @@
 ghost use Rattle.std.specs.Prelude.{◌≡◌};
 ghost use Rattle.reader.specs.Reading.{opening_of, place_after, ReadsAt};
 
-use bytecode::answers::Decoded;
-use reader::answers::{Opening, TokenReader};
+use bytecode::answers::Refusal;
+use layout::record::Token;
+use reader::answers::TokenReader;
 
 // What a read answers, and the place of the reader after it.
 #[derive(Clone, Copy)]
 pub struct Step {
-    pub answer: Decoded,
+    pub answer: Result<Token, Refusal>,
     pub place: usize,
 }
 
-pub fn open(program: &[u8]) -> Opening
+pub fn open(program: &[u8]) -> Result<(), Refusal>
     ensures { result ≡ opening_of program.now }
 {
     let opened = reader::open(program);

@@ -1,16 +1,15 @@
 // Cases of decode, encode and bias.
 use crate::print;
 use crate::print::Form;
-use bytecode::answers::{Decoded, Encoded};
-use layout::record::{Destination, Operand, Sampler, Token};
+use layout::record::{MaskedRegister, Operand, Sampler, Token};
 use std::io;
 use std::io::Write;
 
 // Decodes bytes and prints the record, and whether it encodes to the same bytes.
 pub fn decoded<W: Write>(out: &mut W, bytes: &[u8]) -> io::Result<()> {
     match bytecode::decode(bytes) {
-        Decoded::Refused(r) => print::refusal(out, r),
-        Decoded::Token(t) => {
+        Err(r) => print::refusal(out, r),
+        Ok(t) => {
             record(out, t)?;
             again(out, t, bytes)
         }
@@ -25,10 +24,10 @@ fn record<W: Write>(out: &mut W, t: Token) -> io::Result<()> {
     operand(out, t.source2)
 }
 
-fn destination<W: Write>(out: &mut W, d: Destination) -> io::Result<()> {
+fn destination<W: Write>(out: &mut W, d: Option<MaskedRegister>) -> io::Result<()> {
     match d {
-        Destination::Unused => print::text(out, b"; unused"),
-        Destination::Masked(r) => {
+        None => print::text(out, b"; unused"),
+        Some(r) => {
             print::text(out, b"; to")?;
             print::number(out, r.number as u64)?;
             print::number(out, r.mask as u64)?;
@@ -108,8 +107,8 @@ fn bias<W: Write>(out: &mut W, s: Sampler) -> io::Result<()> {
 fn again<W: Write>(out: &mut W, t: Token, bytes: &[u8]) -> io::Result<()> {
     let mut token = [170u8; 24];
     match bytecode::encode(t, &mut token) {
-        Encoded::Refused(r) => print::refusal(out, r),
-        Encoded::Written => {
+        Err(r) => print::refusal(out, r),
+        Ok(()) => {
             if token.as_slice() == bytes {
                 print::text(out, b"; the same bytes")?;
             }
@@ -127,8 +126,8 @@ pub fn encoded<W: Write>(out: &mut W, room: u8, t: Token) -> io::Result<()> {
 
 fn encoded_into<W: Write>(out: &mut W, t: Token, buffer: &mut [u8]) -> io::Result<()> {
     match bytecode::encode(t, buffer) {
-        Encoded::Refused(r) => print::refusal(out, r)?,
-        Encoded::Written => print::text(out, b"written\n")?,
+        Err(r) => print::refusal(out, r)?,
+        Ok(()) => print::text(out, b"written\n")?,
     }
     print::bytes(out, buffer, Form::Hexadecimal)
 }

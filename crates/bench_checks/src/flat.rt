@@ -3,9 +3,8 @@
 // 3 sampler), number in two bytes and seven values, in the order of the record.
 ghost use Rattle.std.specs.Prelude.{◌≤◌, ◌≡◌, length};
 
-use bytecode::answers::Decoded;
 use layout::record::{
-    Destination, DirectSource, IndexedSource, MaskedRegister, Operand, Sampler, Token,
+    DirectSource, IndexedSource, MaskedRegister, Operand, Sampler, Token,
 };
 
 pub fn token(s: &[u8]) -> Token
@@ -28,11 +27,11 @@ pub fn half(low: u8, high: u8) -> u16 {
     low as u16 + 256 * high as u16
 }
 
-fn destination(tag: u8, number: u16, mask: u8, kind: u8) -> Destination {
+fn destination(tag: u8, number: u16, mask: u8, kind: u8) -> Option<MaskedRegister> {
     if tag == 0 {
-        return Destination::Unused;
+        return None;
     }
-    Destination::Masked(MaskedRegister { number, mask, kind })
+    Some(MaskedRegister { number, mask, kind })
 }
 
 fn operand(s: &[u8]) -> Operand
@@ -76,7 +75,7 @@ fn bias(byte: u8) -> i8 {
     let mut token = [0u8; 24];
     token[0] = layout::opcodes::TEX as u8;
     token[18] = byte;
-    let Decoded::Token(t) = bytecode::decode(&token) else {
+    let Ok(t) = bytecode::decode(&token) else {
         return 0;
     };
     let o = t.source2;

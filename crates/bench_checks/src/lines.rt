@@ -1,7 +1,6 @@
 // Cases of line.
 use crate::{flat, print};
 use layout::record::Token;
-use listing::answers::Printed;
 use std::io;
 use std::io::Write;
 
@@ -29,12 +28,12 @@ fn listed_into<W: Write>(
     buffer: &mut [u8],
 ) -> io::Result<()> {
     match listing::line(t, stage, depth, buffer) {
-        Printed::Refused(r) => {
+        Err(r) => {
             print::refusal(out, r)?;
             print::text(out, buffer)?;
             print::end_line(out)
         }
-        Printed::Length(n) => {
+        Ok(n) => {
             print::text(out, b"length")?;
             print::number(out, n as u64)?;
             print::end_line(out)?;

@@ -4,7 +4,6 @@ ghost use Rattle.std.specs.Prelude.{◌≤◌, length};
 use crate::{flat, print};
 use std::io;
 use std::io::Write;
-use verifier::answers::Checked;
 
 // An edition in four bytes, and a program.
 pub fn checked<W: Write>(out: &mut W, bytes: &[u8]) -> io::Result<()> {
@@ -13,8 +12,8 @@ pub fn checked<W: Write>(out: &mut W, bytes: &[u8]) -> io::Result<()> {
     }
     let edition = layout::word(bytes[0], bytes[1], bytes[2], bytes[3]);
     match verifier::check(edition, &bytes[4..]) {
-        Checked::Refused(r) => print::refusal(out, r),
-        Checked::Accepted(p) => {
+        Err(r) => print::refusal(out, r),
+        Ok(p) => {
             print::text(out, b"accepted")?;
             print::number(out, p.stage as u64)?;
             print::number(out, p.tokens as u64)?;

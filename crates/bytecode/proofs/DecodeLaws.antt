@@ -1,5 +1,6 @@
 -- What decode's answer is, from its fault.
 -- Assumes nothing.
+use Rattle.std.specs.Prelude.{Err, Ok}
 use Prim.Native.Nat.{ℕ}
 use mathlib.Core.Bool.{Bool, true, false, not, cond, ◌&&◌, ◌||◌, false≢true}
 use mathlib.Core.List.{List}
@@ -18,7 +19,6 @@ use Rattle.layout.specs.declared.opcodes.Shape.{Shape}
 use Rattle.layout.specs.declared.fields.Fields.{Fields}
 use Rattle.layout.specs.declared.record.Token.{Token}
 use Rattle.bytecode.specs.declared.answers.Refusal.{Refusal}
-use Rattle.bytecode.specs.declared.answers.Decoded.TheVariants.{Token as Accepted, Refused}
 
 chain : Bool → Bool → Bool → ℕ → ℕ → Refusal
 chain a b c p q = cond a (refusal 9 0 0) (cond b (refusal 12 0 p) (cond c (refusal 13 0 q) no_refusal))
@@ -42,18 +42,18 @@ module _ (s : List ℕ) where
   by_fields h = rw (eq-eqb _ _ h)
 
   -- a fault that decode has is its answer
-  refused_by_lem : (r : Refusal) → decode_fault s ≡ r → (r.number ≡ 0 → ⊥) → Decodes s (Refused r)
+  refused_by_lem : (r : Refusal) → decode_fault s ≡ r → (r.number ≡ 0 → ⊥) → Decodes s (Err r)
   unfolding decode_of
   refused_by_lem r q n = let e = ne_eqb r.number 0 n in record { answer = sym (rw (q, e)); numbers = sym (rw (q, e)) }
 
-  pub wrong_length : (length s ≡ 24 → ⊥) → Decodes s (Refused (refusal 24 0 0))
+  pub wrong_length : (length s ≡ 24 → ⊥) → Decodes s (Err (refusal 24 0 0))
   unfolding decode_fault
   wrong_length n = refused_by_lem (refusal 24 0 0) (rw (ne_eqb _ _ n)) (λ e. omega (arith, e))
 
-  pub with_fault_lem : length s ≡ 24 → ((token_fault (shape_of (fields_of s).opcode) (fields_of s)).number ≡ 0 → ⊥) → Decodes s (Refused (token_fault (shape_of (fields_of s).opcode) (fields_of s)))
+  pub with_fault_lem : length s ≡ 24 → ((token_fault (shape_of (fields_of s).opcode) (fields_of s)).number ≡ 0 → ⊥) → Decodes s (Err (token_fault (shape_of (fields_of s).opcode) (fields_of s)))
   with_fault_lem h n = refused_by_lem (token_fault (shape_of (fields_of s).opcode) (fields_of s)) (by_fields h) n
 
-  pub no_faults : length s ≡ 24 → (token_fault (shape_of (fields_of s).opcode) (fields_of s)).number ≡ 0 → Decodes s (Accepted (token_of (shape_of (fields_of s).opcode) (fields_of s)))
+  pub no_faults : length s ≡ 24 → (token_fault (shape_of (fields_of s).opcode) (fields_of s)).number ≡ 0 → Decodes s (Ok (token_of (shape_of (fields_of s).opcode) (fields_of s)))
   unfolding decode_of
   no_faults h e =
       let z = by_fields h ∙ no_fault (shape_of (fields_of s).opcode) (fields_of s) e in
@@ -140,32 +140,32 @@ module _ (s : Shape) (f : Fields) where
   not_clean e n = false≢true (sym e ∙ is_clean_lem (clean (no_fault s f n)))
 
 -- an accepted answer has no fault
-pub accepted : (s : List ℕ) (t : Token) → decode_of s ≡ Accepted t
+pub accepted : (s : List ℕ) (t : Token) → decode_of s ≡ Ok t
     → (length s ≡ 24) × (token_fault (shape_of (fields_of s).opcode) (fields_of s) ≡ no_refusal) × (t ≡ token_of (shape_of (fields_of s).opcode) (fields_of s))
 unfolding decode_of decode_fault
 accepted s t e = go (eqb (length s) 24) refl e
   where
     go : (b : Bool) → eqb (length s) 24 ≡ b
-        → cond (eqb (cond b (token_fault (shape_of (fields_of s).opcode) (fields_of s)) (refusal 24 0 0)).number 0) (Accepted (token_of (shape_of (fields_of s).opcode) (fields_of s))) (Refused (cond b (token_fault (shape_of (fields_of s).opcode) (fields_of s)) (refusal 24 0 0))) ≡ Accepted t
+        → cond (eqb (cond b (token_fault (shape_of (fields_of s).opcode) (fields_of s)) (refusal 24 0 0)).number 0) (Ok (token_of (shape_of (fields_of s).opcode) (fields_of s))) (Err (cond b (token_fault (shape_of (fields_of s).opcode) (fields_of s)) (refusal 24 0 0))) ≡ Ok t
         → (length s ≡ 24) × (token_fault (shape_of (fields_of s).opcode) (fields_of s) ≡ no_refusal) × (t ≡ token_of (shape_of (fields_of s).opcode) (fields_of s))
     go false l h = let z : ◌≡◌ {A = ℕ} 0 1 = cc in absurd (omega arith)
     go true l h = within (eqb (token_fault (shape_of (fields_of s).opcode) (fields_of s)).number 0) refl h
       where
         within : (b : Bool) → eqb (token_fault (shape_of (fields_of s).opcode) (fields_of s)).number 0 ≡ b
-            → cond b (Accepted (token_of (shape_of (fields_of s).opcode) (fields_of s))) (Refused (token_fault (shape_of (fields_of s).opcode) (fields_of s))) ≡ Accepted t
+            → cond b (Ok (token_of (shape_of (fields_of s).opcode) (fields_of s))) (Err (token_fault (shape_of (fields_of s).opcode) (fields_of s))) ≡ Ok t
             → (length s ≡ 24) × (token_fault (shape_of (fields_of s).opcode) (fields_of s) ≡ no_refusal) × (t ≡ token_of (shape_of (fields_of s).opcode) (fields_of s))
         within false n k = let z : ◌≡◌ {A = ℕ} 0 1 = cc in absurd (omega arith)
         within true n k =
             (eqb-true (length s) 24 l, no_fault (shape_of (fields_of s).opcode) (fields_of s) (eqb-true _ 0 n), cc)
 
 -- a refused token of 24 bytes has a fault, which is the answer
-pub was_refused : (s : List ℕ) (r : Refusal) → length s ≡ 24 → decode_of s ≡ Refused r
+pub was_refused : (s : List ℕ) (r : Refusal) → length s ≡ 24 → decode_of s ≡ Err r
     → (r ≡ token_fault (shape_of (fields_of s).opcode) (fields_of s)) × (r.number ≡ 0 → ⊥)
 unfolding decode_of decode_fault
 was_refused s r h e = go (eqb (token_fault (shape_of (fields_of s).opcode) (fields_of s)).number 0) refl (rw (eq-eqb (length s) 24 h) at e)
   where
     go : (b : Bool) → eqb (token_fault (shape_of (fields_of s).opcode) (fields_of s)).number 0 ≡ b
-        → cond b (Accepted (token_of (shape_of (fields_of s).opcode) (fields_of s))) (Refused (token_fault (shape_of (fields_of s).opcode) (fields_of s))) ≡ Refused r
+        → cond b (Ok (token_of (shape_of (fields_of s).opcode) (fields_of s))) (Err (token_fault (shape_of (fields_of s).opcode) (fields_of s))) ≡ Err r
         → (r ≡ token_fault (shape_of (fields_of s).opcode) (fields_of s)) × (r.number ≡ 0 → ⊥)
     go true n k = let z : ◌≡◌ {A = ℕ} 0 1 = cc in absurd (omega arith)
     go false n k =

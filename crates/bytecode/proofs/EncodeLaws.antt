@@ -1,5 +1,6 @@
 -- What is to be tested of a source, and what encode's answer is, from its fault.
 -- Assumes nothing.
+use Rattle.std.specs.Prelude.{Err, Ok}
 use Prim.Native.Nat.{ℕ, ◌<◌, ◌≤◌}
 use mathlib.Core.Bool.{Bool, true, false, cond, ◌&&◌, and-true}
 use mathlib.Core.List.{List, ◌++◌}
@@ -8,10 +9,9 @@ use native.Mathlib.Omega.{arith}
 use lib.Dec.{eqb, ltb}
 use lib.ListN.{length, drop}
 use borrow.Author.Tests.{lt-ltb, le-ltb, ltb-false}
-use Rattle.bytecode.specs.Decode.{refusal, no_refusal}
+use Rattle.bytecode.specs.Decode.{refusal, no_refusal, outcome}
 use Rattle.bytecode.specs.Encode.{source_fits, is_encodable, encoded_bytes, encode_fault, encode_of, after_encode, Encodes}
 use Rattle.layout.specs.declared.record.Token.{Token}
-use Rattle.bytecode.specs.declared.answers.Encoded.TheVariants.{Written, Refused}
 
 -- a number of 16 bits and two of 8 fit their places
 pub source_tests : (n o s : ℕ) → n < 65536 → o < 256 → s < 256 → (t i q : ℕ) → source_fits n o s t i q ≡ (ltb t 16 && ltb i 16 && ltb q 4)
@@ -19,35 +19,35 @@ unfolding source_fits
 source_tests n o s hn ho hs t i q = simp (lt-ltb n 65536 hn, lt-ltb o 256 ho, lt-ltb s 256 hs, and-true)
 
 module _ (t : Token) (buffer : List ℕ) where
-  pub not_encodable : is_encodable t ≡ false → Encodes t buffer buffer (Refused (refusal 25 0 0))
+  pub not_encodable : is_encodable t ≡ false → Encodes t buffer buffer (Err (refusal 25 0 0))
   unfolding encode_fault encode_of after_encode
   not_encodable e = record { answer = simp e; numbers = simp e; buffer = simp e }
 
-  pub too_short : is_encodable t ≡ true → length buffer < 24 → Encodes t buffer buffer (Refused (refusal 23 0 0))
+  pub too_short : is_encodable t ≡ true → length buffer < 24 → Encodes t buffer buffer (Err (refusal 23 0 0))
   unfolding encode_fault encode_of after_encode
   too_short e h =
       let l = lt-ltb (length buffer) 24 h in
       record { answer = simp (e, l); numbers = simp (e, l); buffer = simp (e, l) }
 
-  pub written : is_encodable t ≡ true → 24 ≤ length buffer → Encodes t buffer (encoded_bytes t ++ drop 24 buffer) Written
+  pub written : is_encodable t ≡ true → 24 ≤ length buffer → Encodes t buffer (encoded_bytes t ++ drop 24 buffer) (Ok tt)
   unfolding encode_fault encode_of after_encode
   written e h =
       let l = le-ltb (length buffer) 24 h in
       record { answer = simp (e, l); numbers = simp (e, l); buffer = simp (e, l) }
 
   -- what was written was encodable and had room
-  pub was_written : encode_of t buffer ≡ Written → (is_encodable t ≡ true) × (24 ≤ length buffer)
+  pub was_written : encode_of t buffer ≡ Ok tt → (is_encodable t ≡ true) × (24 ≤ length buffer)
   unfolding encode_fault encode_of
   was_written e = go (is_encodable t) refl e
     where
       go : (b : Bool) → is_encodable t ≡ b
-          → cond (eqb (cond b (cond (ltb (length buffer) 24) (refusal 23 0 0) no_refusal) (refusal 25 0 0)).number 0) Written (Refused (cond b (cond (ltb (length buffer) 24) (refusal 23 0 0) no_refusal) (refusal 25 0 0))) ≡ Written
+          → outcome (cond b (cond (ltb (length buffer) 24) (refusal 23 0 0) no_refusal) (refusal 25 0 0)) ≡ Ok tt
           → (is_encodable t ≡ true) × (24 ≤ length buffer)
       go false i h = let z : ◌≡◌ {A = ℕ} 0 1 = cc in absurd (omega arith)
       go true i h = within (ltb (length buffer) 24) refl h
         where
           within : (b : Bool) → ltb (length buffer) 24 ≡ b
-              → cond (eqb (cond b (refusal 23 0 0) no_refusal).number 0) Written (Refused (cond b (refusal 23 0 0) no_refusal)) ≡ Written
+              → outcome (cond b (refusal 23 0 0) no_refusal) ≡ Ok tt
               → (is_encodable t ≡ true) × (24 ≤ length buffer)
           within true l k = let z : ◌≡◌ {A = ℕ} 0 1 = cc in absurd (omega arith)
           within false l k = (i, ltb-false (length buffer) 24 l)

@@ -1,5 +1,6 @@
 -- What an encodable record is packed to.
 -- Assumes nothing.
+use Rattle.std.specs.Prelude.{None, Option, Some}
 use Prim.Native.Nat.{◌^◌, ◌<◌}
 use mathlib.Core.Bool.{Bool, true, false, ◌&&◌, false≢true}
 use mathlib.Core.Path.{◌≡◌, refl, ap}
@@ -11,8 +12,7 @@ use Rattle.bytecode.specs.Encode.{destination_fits, destination_field, operand_f
 use Rattle.bytecode.specs.computed.Placed.{DestinationPlaced, OperandPlaced}
 use Rattle.layout.specs.declared.opcodes.OperandShape.{OperandShape}
 use Rattle.layout.specs.declared.opcodes.OperandShape.TheVariants.{Unused as NoField, Source as SourceField, Sampler as SamplerField}
-use Rattle.layout.specs.declared.record.Destination.{Destination}
-use Rattle.layout.specs.declared.record.Destination.TheVariants.{Unused as NoDestination, Masked}
+use Rattle.layout.specs.declared.record.MaskedRegister.{MaskedRegister}
 use Rattle.layout.specs.declared.record.Operand.{Operand}
 use Rattle.layout.specs.declared.record.Operand.TheVariants.{Unused as NoOperand, Direct, Indexed, Sampler as Sampled}
 use Rattle.layout.specs.declared.record.Token.{Token}
@@ -22,7 +22,7 @@ use Rattle.bytecode.proofs.SourceAgain.{direct_of_lem, indexed_of_lem, source_cl
 use Rattle.bytecode.proofs.SamplerAgain.{sampler_of_lem, sampler_clean, sampler_placed, sampler_small}
 
 -- a packed operand has no stray bit, makes the operand again and has no more bits than its field; its values fit their places
-pub record DestinationPacked (used : Bool) (r : Destination) : Type 0 where
+pub record DestinationPacked (used : Bool) (r : Option MaskedRegister) : Type 0 where
   pub clean : is_stray (destination_bits used) (destination_field r) ≡ false
   pub again : destination_of used (destination_field r) ≡ r
   pub small : destination_field r < 2 ^ 32
@@ -34,12 +34,12 @@ pub record OperandPacked (shape : OperandShape) (o : Operand) : Type 0 where
   pub small : operand_field o < 2 ^ 64
   pub placed : OperandPlaced o
 
-destination_of_lem : (used : Bool) (r : Destination) → destination_fits used r ≡ true → DestinationPacked used r
-destination_of_lem true NoDestination e = absurd (false≢true e)
-destination_of_lem true (Masked r) e =
-    record { clean = register_clean r e; again = ap Masked (register_of_lem r e); small = register_small r e; placed = register_placed r e }
-destination_of_lem false NoDestination e = record { clean = refl; again = refl; small = lit< tt; placed = tt }
-destination_of_lem false (Masked r) e = absurd (false≢true e)
+destination_of_lem : (used : Bool) (r : Option MaskedRegister) → destination_fits used r ≡ true → DestinationPacked used r
+destination_of_lem true None e = absurd (false≢true e)
+destination_of_lem true (Some r) e =
+    record { clean = register_clean r e; again = ap Some (register_of_lem r e); small = register_small r e; placed = register_placed r e }
+destination_of_lem false None e = record { clean = refl; again = refl; small = lit< tt; placed = tt }
+destination_of_lem false (Some r) e = absurd (false≢true e)
 
 operand_of_lem : (shape : OperandShape) (o : Operand) → operand_fits shape o ≡ true → OperandPacked shape o
 operand_of_lem NoField NoOperand e = record { clean = refl; again = refl; small = lit< tt; placed = tt }

@@ -1,6 +1,7 @@
 -- The round trip, both ways: bytes that decode does not refuse encode to themselves, and records that encode does not refuse decode to
 -- themselves.
 -- Assumes nothing.
+use Rattle.std.specs.Prelude.{Ok}
 use Prim.Native.Nat.{ℕ}
 use mathlib.Core.Bool.{Bool, true, false}
 use mathlib.Core.List.{List, ◌++◌}
@@ -22,7 +23,6 @@ use Rattle.layout.specs.declared.opcodes.OperandShape.{OperandShape}
 use Rattle.layout.specs.declared.opcodes.OperandShape.TheVariants.{Unused as NoField, Source as SourceField, Sampler as SamplerField}
 use Rattle.layout.specs.declared.fields.Fields.{Fields}
 use Rattle.layout.specs.declared.record.Token.{Token}
-use Rattle.bytecode.specs.declared.answers.Decoded.TheVariants.{Token as Accepted}
 use Rattle.bytecode.proofs.DecodeLaws.{Clean, clean, clean_none, accepted, no_faults}
 use Rattle.bytecode.proofs.PackLaws.{listed, destination_packed, source1_packed, source2_packed}
 use Rattle.bytecode.proofs.EncodeLaws.{written, was_written}
@@ -69,7 +69,7 @@ module _ (f : Fields) (c : Clean (shape_of f.opcode) f) where
   unfolding token_of
   token_fields_again = rw (d.1, a.1, b.1)
 
-from_bytes : (s : List ℕ) (t : Token) → T (are_bytes s) → decode_of s ≡ Accepted t → (is_encodable t ≡ true) × (encoded_bytes t ≡ s)
+from_bytes : (s : List ℕ) (t : Token) → T (are_bytes s) → decode_of s ≡ Ok t → (is_encodable t ≡ true) × (encoded_bytes t ≡ s)
 from_bytes s t h e =
     let (l, n, m) = accepted s t e in
     let c = clean (shape_of (fields_of s).opcode) (fields_of s) n in
@@ -86,7 +86,7 @@ same : (t : Token)
 unfolding token_of
 same t d a b = rw (d, a, b)
 
-from_record : (t : Token) → is_encodable t ≡ true → decode_of (encoded_bytes t) ≡ Accepted t
+from_record : (t : Token) → is_encodable t ≡ true → decode_of (encoded_bytes t) ≡ Ok t
 from_record t e =
     let h = shape_of t.opcode in
     let listed = listed t e in
@@ -96,7 +96,7 @@ from_record t e =
     let f = fields_again (token_fields t) (omega (arith, listed_below t.opcode listed)) d.small a.small b.small in
     let c : Clean h (token_fields t) = record { listed = listed; destination = d.clean; source1 = a.clean; source2 = b.clean } in
     let n : token_fault (shape_of (fields_of (encoded_bytes t)).opcode) (fields_of (encoded_bytes t)) ≡ no_refusal = ap (λ g. token_fault (shape_of g.opcode) g) f ∙ clean_none h (token_fields t) c in
-    sym (no_faults (encoded_bytes t) refl (ap (λ r. r.number) n)).answer ∙ ap (λ g. Accepted (token_of (shape_of g.opcode) g)) f ∙ ap Accepted (same t d.again a.again b.again)
+    sym (no_faults (encoded_bytes t) refl (ap (λ r. r.number) n)).answer ∙ ap (λ g. Ok (token_of (shape_of g.opcode) g)) f ∙ ap Ok (same t d.again a.again b.again)
 
 pub round_trip : RoundTrip
 round_trip =

@@ -8,8 +8,7 @@ use Rattle.layout.specs.Records.{token_of}
 use Rattle.layout.specs.declared.opcodes.Shape.{Shape}
 use Rattle.layout.specs.declared.fields.Fields.{Fields}
 use Rattle.bytecode.specs.declared.answers.Refusal.{Refusal}
-use Rattle.bytecode.specs.declared.answers.Decoded.{Decoded}
-use Rattle.bytecode.specs.declared.answers.Decoded.TheVariants.{Token as Accepted, Refused}
+use Rattle.layout.specs.declared.record.Token.{Token}
 
 -- the numbers of a refusal: fault, token and part
 abbrev pub refusal : ℕ → ℕ → ℕ → Refusal
@@ -61,13 +60,13 @@ unfoldable pub decode_fault : List ℕ → Refusal
 decode_fault s = cond (eqb (length s) 24) (token_fault (shape_of (fields_of s).opcode) (fields_of s)) (refusal 24 0 0)
 
 -- what decode answers
-unfoldable pub decode_of : List ℕ → Decoded
+unfoldable pub decode_of : List ℕ → Result Token Refusal
 decode_of s =
     cond (eqb (decode_fault s).number 0)
-    (Accepted (token_of (shape_of (fields_of s).opcode) (fields_of s)))
-    (Refused (decode_fault s))
+    (Ok (token_of (shape_of (fields_of s).opcode) (fields_of s)))
+    (Err (decode_fault s))
 
 -- the promise of decode: its answer, and the numbers of its answer by the rules above
-pub record Decodes (s : List ℕ) (r : Decoded) : Type 0 where
+pub record Decodes (s : List ℕ) (r : Result Token Refusal) : Type 0 where
   pub answer : r ≡ decode_of s
   pub numbers : decoded_numbers r ≡ found_numbers (decode_fault s) 0 0

@@ -1,24 +1,20 @@
 -- Document 01: the fields that a record makes, and the refusals of encode, 25 and then 23.
-use Rattle.std.specs.Prelude.{ℕ, ◌+◌, ◌-◌, Bool, true, false, not, cond, ◌&&◌, List, ◌++◌, ◌≡◌, ltb, eqb, ℤ, pos, negsuc, length, drop}
+use Rattle.std.specs.Prelude.{ℕ, ◌+◌, ◌-◌, Bool, true, false, not, cond, ◌&&◌, List, ◌++◌, ◌≡◌, ltb, eqb, ℤ, pos, negsuc, length, drop, Err, None, Ok, Option, Result, Some, ⊤}
 use Rattle.layout.specs.Layout as layout
 use Rattle.layout.specs.Layout.{placed, fits}
 use Rattle.layout.specs.Opcodes.{shape_of}
 use Rattle.bytecode.specs.Fields.{bytes_of}
-use Rattle.bytecode.specs.Decode.{refusal, no_refusal}
+use Rattle.bytecode.specs.Decode.{refusal, no_refusal, outcome}
 use Rattle.bytecode.specs.Numbers.{found_numbers, encoded_numbers}
 use Rattle.layout.specs.declared.opcodes.OperandShape.{OperandShape}
 use Rattle.layout.specs.declared.opcodes.OperandShape.TheVariants.{Unused as NoField, Source as SourceField, Sampler as SamplerField}
 use Rattle.layout.specs.declared.fields.Fields.{Fields}
 use Rattle.layout.specs.declared.record.MaskedRegister.{MaskedRegister}
-use Rattle.layout.specs.declared.record.Destination.{Destination}
-use Rattle.layout.specs.declared.record.Destination.TheVariants.{Unused as NoDestination, Masked}
 use Rattle.layout.specs.declared.record.Sampler.{Sampler}
 use Rattle.layout.specs.declared.record.Operand.{Operand}
 use Rattle.layout.specs.declared.record.Operand.TheVariants.{Unused as NoOperand, Direct, Indexed, Sampler as Sampled}
 use Rattle.layout.specs.declared.record.Token.{Token}
 use Rattle.bytecode.specs.declared.answers.Refusal.{Refusal}
-use Rattle.bytecode.specs.declared.answers.Encoded.{Encoded}
-use Rattle.bytecode.specs.declared.answers.Encoded.TheVariants.{Written, Refused}
 
 -- ---- a destination
 
@@ -29,13 +25,13 @@ unfoldable pub register_field : MaskedRegister → ℕ
 register_field r = placed layout.number r.number + placed layout.mask r.mask + placed layout.masked_kind r.kind
 
 -- an operand's kind is the opcode's, and no value exceeds its width
-abbrev pub destination_fits : Bool → Destination → Bool
-destination_fits used NoDestination = not used
-destination_fits used (Masked r) = used && register_fits r
+abbrev pub destination_fits : Bool → Option MaskedRegister → Bool
+destination_fits used None = not used
+destination_fits used (Some r) = used && register_fits r
 
-abbrev pub destination_field : Destination → ℕ
-destination_field NoDestination = 0
-destination_field (Masked r) = register_field r
+abbrev pub destination_field : Option MaskedRegister → ℕ
+destination_field None = 0
+destination_field (Some r) = register_field r
 
 -- ---- a source
 
@@ -142,15 +138,15 @@ unfoldable pub encode_fault : Token → List ℕ → Refusal
 encode_fault t buffer =
     cond (is_encodable t) (cond (ltb (length buffer) 24) (refusal 23 0 0) no_refusal) (refusal 25 0 0)
 
-unfoldable pub encode_of : Token → List ℕ → Encoded
-encode_of t buffer = cond (eqb (encode_fault t buffer).number 0) Written (Refused (encode_fault t buffer))
+unfoldable pub encode_of : Token → List ℕ → Result ⊤ Refusal
+encode_of t buffer = outcome (encode_fault t buffer)
 
 -- what the lent buffer holds afterwards: the token and then what was there, or all that was there
 unfoldable pub after_encode : Token → List ℕ → List ℕ
 after_encode t buffer = cond (eqb (encode_fault t buffer).number 0) (encoded_bytes t ++ drop 24 buffer) buffer
 
 -- the promise of encode: its answer, the numbers of its answer by the rules above, and the buffer afterwards
-pub record Encodes (t : Token) (before after : List ℕ) (r : Encoded) : Type 0 where
+pub record Encodes (t : Token) (before after : List ℕ) (r : Result ⊤ Refusal) : Type 0 where
   pub answer : r ≡ encode_of t before
   pub numbers : encoded_numbers r ≡ found_numbers (encode_fault t before) 0 0
   pub buffer : after ≡ after_encode t before

@@ -1,12 +1,9 @@
 -- Document 01: "When an answer is an enum, a definition gives this paper's number and values for each of its cases, and the promises use
 -- that definition." The numbers of any answer, and which they are of what decode and encode answer; the other answers are in the crates
 -- that give them.
-use Rattle.std.specs.Prelude.{ℕ, ◌≤◌, cond, ◌≡◌, eqb}
+use Rattle.std.specs.Prelude.{ℕ, ◌≤◌, cond, ◌≡◌, eqb, Err, Ok, Result, ⊤}
 use Rattle.bytecode.specs.declared.answers.Refusal.{Refusal}
-use Rattle.bytecode.specs.declared.answers.Decoded.{Decoded}
-use Rattle.bytecode.specs.declared.answers.Decoded.TheVariants.{Token as Accepted, Refused as NotDecoded}
-use Rattle.bytecode.specs.declared.answers.Encoded.{Encoded}
-use Rattle.bytecode.specs.declared.answers.Encoded.TheVariants.{Written, Refused as NotWritten}
+use Rattle.layout.specs.declared.record.Token.{Token}
 
 -- "a refusal number, a token number from 0, and a part"; or the stage of an accepted program, and its token count or the length of a line.
 -- What no rule names is 0.
@@ -44,10 +41,10 @@ found_numbers fault stage value = cond (eqb fault.number 0) (accepted_numbers st
 
 -- ---- of what decode and encode answer, which has no stage and no value
 
-abbrev pub decoded_numbers : Decoded → Numbers
-decoded_numbers (Accepted t) = accepted_numbers 0 0
-decoded_numbers (NotDecoded r) = refusal_numbers r
+abbrev pub decoded_numbers : Result Token Refusal → Numbers
+decoded_numbers (Ok t) = accepted_numbers 0 0
+decoded_numbers (Err r) = refusal_numbers r
 
-abbrev pub encoded_numbers : Encoded → Numbers
-encoded_numbers Written = accepted_numbers 0 0
-encoded_numbers (NotWritten r) = refusal_numbers r
+abbrev pub encoded_numbers : Result ⊤ Refusal → Numbers
+encoded_numbers (Ok tt) = accepted_numbers 0 0
+encoded_numbers (Err r) = refusal_numbers r

@@ -4,25 +4,25 @@ ghost use Rattle.bytecode.specs.Decode.{Decodes, token_fault, unused_not_zero, u
 ghost use Rattle.bytecode.specs.computed.CleanFields.{is_clean};
 ghost use Rattle.layout.specs.Records.{token_of};
 
-use crate::answers::{Decoded, Refusal};
+use crate::answers::Refusal;
 use crate::{fields, refusals};
 use layout::fields::Fields;
 use layout::opcodes::Shape;
 use layout::record::Token;
 use layout::{bits, opcodes};
 
-pub fn decode(bytes: &[u8]) -> Decoded
+pub fn decode(bytes: &[u8]) -> Result<Token, Refusal>
     ensures { Decodes bytes.now result }
 {
     if bytes.len() != 24 {
-        return Decoded::Refused(refusals::refusal(24, 0, 0));
+        return Err(refusals::refusal(24, 0, 0));
     }
     let f = fields::read_fields(bytes);
     let shape = opcodes::shape_of(f.opcode);
     if is_clean(shape, f) {
-        return Decoded::Token(token_of(shape, f));
+        return Ok(token_of(shape, f));
     }
-    Decoded::Refused(fault_of(shape, f))
+    Err(fault_of(shape, f))
 }
 
 fn token_of(shape: Shape, f: Fields) -> Token

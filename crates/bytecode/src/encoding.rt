@@ -1,20 +1,20 @@
 // Encode: the 24 bytes of a record into a lent buffer, or the first fault with every byte as it was.
 ghost use Rattle.bytecode.specs.Encode.{Encodes};
 
-use crate::answers::Encoded;
+use crate::answers::Refusal;
 use crate::{fields, fits, pack, refusals};
 use layout::record::Token;
 
-pub fn encode(token: Token, out: &mut [u8]) -> Encoded
+pub fn encode(token: Token, out: &mut [u8]) -> Result<(), Refusal>
     ensures { Encodes token out.old out.new result }
 {
     if !fits::encodable(token) {
-        return Encoded::Refused(refusals::refusal(25, 0, 0));
+        return Err(refusals::refusal(25, 0, 0));
     }
     if out.len() < 24 {
-        return Encoded::Refused(refusals::refusal(23, 0, 0));
+        return Err(refusals::refusal(23, 0, 0));
     }
     let f = pack::pack_token(token);
     fields::write_fields(f, out);
-    Encoded::Written
+    Ok(())
 }

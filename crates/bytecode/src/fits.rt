@@ -4,7 +4,7 @@ ghost use Rattle.bytecode.specs.Encode.{register_fits, destination_fits, sampler
 
 use layout::opcodes;
 use layout::opcodes::OperandShape;
-use layout::record::{Destination, MaskedRegister, Operand, Sampler, Token};
+use layout::record::{MaskedRegister, Operand, Sampler, Token};
 
 // Whether encode, given room, writes a record.
 pub fn encodable(token: Token) -> bool
@@ -22,12 +22,12 @@ pub fn encodable(token: Token) -> bool
         & operand_fits(shape2, source2)
 }
 
-fn destination_fits(used: bool, destination: Destination) -> bool
+fn destination_fits(used: bool, destination: Option<MaskedRegister>) -> bool
     ensures { result ≡ destination_fits used destination }
 {
     match destination {
-        Destination::Unused => !used,
-        Destination::Masked(register) => used & register_fits(register),
+        None => !used,
+        Some(register) => used & register_fits(register),
     }
 }
 

@@ -7,7 +7,7 @@ ghost use Rattle.bytecode.specs.computed.Placed.{DestinationPlaced, SourceHigh, 
 use layout::bits;
 use layout::bits::Bits;
 use layout::fields::Fields;
-use layout::record::{Destination, MaskedRegister, Operand, Sampler, Token};
+use layout::record::{MaskedRegister, Operand, Sampler, Token};
 
 // The fields of an encodable record.
 pub(crate) fn pack_token(token: Token) -> Fields
@@ -25,13 +25,13 @@ pub(crate) fn pack_token(token: Token) -> Fields
     }
 }
 
-fn pack_destination(destination: Destination) -> u64
+fn pack_destination(destination: Option<MaskedRegister>) -> u64
     requires { DestinationPlaced destination }
     ensures { result ≡ destination_field destination }
 {
     match destination {
-        Destination::Unused => 0,
-        Destination::Masked(register) => pack_register(register),
+        None => 0,
+        Some(register) => pack_register(register),
     }
 }
 

@@ -1,11 +1,11 @@
 -- What tokens of each kind read and write, computed.
 -- Assumes nothing.
+use Rattle.std.specs.Prelude.{None, Option, Some}
 use Prim.Native.Nat.{ℕ}
 use mathlib.Core.Path.{◌≡◌, refl}
 use mathlib.Core.List.{List, [], ◌∷◌, map}
 use lib.IntN.{pos}
-use Rattle.layout.specs.declared.record.Destination.{Destination}
-use Rattle.layout.specs.declared.record.Destination.TheVariants.{Unused as NoDestination, Masked}
+use Rattle.layout.specs.declared.record.MaskedRegister.{MaskedRegister}
 use Rattle.layout.specs.declared.record.Operand.{Operand}
 use Rattle.layout.specs.declared.record.Operand.TheVariants.{Unused as NoOperand, Direct, Indexed, Sampler as Sampled}
 use Rattle.layout.specs.declared.record.Token.{Token}
@@ -16,8 +16,8 @@ use Rattle.components.specs.Reads.{Component, reads1, reads2, writes, temporarie
 use Rattle.components.specs.Tokens.{path_flow}
 
 -- a temporary register that is written, through a mask
-abbrev to : ℕ → ℕ → Destination
-to n mask = Masked (record { number = n; mask = mask; kind = 2 })
+abbrev to : ℕ → ℕ → Option MaskedRegister
+to n mask = Some (record { number = n; mask = mask; kind = 2 })
 
 -- a register of some type that is read, through a swizzle
 abbrev from : ℕ → ℕ → ℕ → Operand
@@ -32,7 +32,7 @@ abbrev sampler : ℕ → Operand
 sampler dimension =
     Sampled (record { number = 0; bias = pos 0; kind = 5; dimension = dimension; special = 0; wrap = 0; mipmap = 0; filter = 0 })
 
-abbrev token : ℕ → Destination → Operand → Operand → Token
+abbrev token : ℕ → Option MaskedRegister → Operand → Operand → Token
 token opcode d a b = record { opcode = opcode; destination = d; source1 = a; source2 = b }
 
 abbrev component : ℕ → ℕ → ℕ → Component
@@ -81,7 +81,7 @@ cases =
       ),
     )
     -- kil vt1.zzzz
-    ∷ (token 0x27 NoDestination (from 2 1 0xaa) NoOperand, (6 ∷ [], [], []))
+    ∷ (token 0x27 None (from 2 1 0xaa) NoOperand, (6 ∷ [], [], []))
     -- tex vt0.w vt1.xyzw, 2d and cube
     ∷ (token 0x28 (to 0 0x8) (from 2 1 0xe4) (sampler 0), (4 ∷ 5 ∷ [], [], 3 ∷ []))
     ∷ (token 0x28 (to 0 0x8) (from 2 1 0xe4) (sampler 1), (4 ∷ 5 ∷ 6 ∷ [], [], 3 ∷ []))
@@ -91,11 +91,11 @@ cases =
     -- mov vt0.xyzw vc[va1.x+3].xyzw: an index in an attribute
     ∷ (token 0x00 (to 0 0xf) (indexed 0 1 0) NoOperand, ([], [], 0 ∷ 1 ∷ 2 ∷ 3 ∷ []))
     -- ife vt1.xxxx vt2.xyzw: all four selectors of both
-    ∷ (token 0x1c NoDestination (from 2 1 0x00) (from 2 2 0xe4), (4 ∷ [], 8 ∷ 9 ∷ 10 ∷ 11 ∷ [], []))
+    ∷ (token 0x1c None (from 2 1 0x00) (from 2 2 0xe4), (4 ∷ [], 8 ∷ 9 ∷ 10 ∷ 11 ∷ [], []))
     -- ifg vc[vt1.w+3].xyzw vt2.yyyy: of an indexed one the index
-    ∷ (token 0x1e NoDestination (indexed 2 1 3) (from 2 2 0x55), (7 ∷ [], 9 ∷ [], []))
+    ∷ (token 0x1e None (indexed 2 1 3) (from 2 2 0x55), (7 ∷ [], 9 ∷ [], []))
     -- els
-    ∷ (token 0x20 NoDestination NoOperand NoOperand, ([], [], []))
+    ∷ (token 0x20 None NoOperand NoOperand, ([], [], []))
     ∷ []
 
 read : map (λ c. reading c.0) cases ≡ map (λ c. c.1) cases
@@ -104,7 +104,7 @@ read = refl
 
 -- over every register type: m33 v4.xy va1.xyzw vc2.xyzw
 abbrev attribute : Token
-attribute = token 0x17 (Masked (record { number = 4; mask = 0x3; kind = 4 })) (from 0 1 0xe4) (from 1 2 0xe4)
+attribute = token 0x17 (Some (record { number = 4; mask = 0x3; kind = 4 })) (from 0 1 0xe4) (from 1 2 0xe4)
 
 read_attribute : reads1 attribute ≡ component 0 1 0 ∷ component 0 1 1 ∷ component 0 1 2 ∷ []
 unfolding selectors1

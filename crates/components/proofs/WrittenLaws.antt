@@ -1,5 +1,6 @@
 -- The written sets as sets of components: join keeps what both have, and mark adds what a register's mask names.
 -- Assumes nothing.
+use Rattle.std.specs.Prelude.{Some}
 use Prim.Native.Nat.{ℕ, zero, suc, ◌*◌, ◌/◌, ◌%◌, ◌^◌, ◌<◌}
 use mathlib.Core.Bool.{Bool, true, false, cond, ◌&&◌, ◌||◌, and-true, and-false, or-false}
 use mathlib.Core.Path.{◌≡◌, refl, sym, ap, ◌∙◌}
@@ -9,7 +10,6 @@ use lib.Bits.{bit_and, bit_or, or_zero_r}
 use lib.Dec.{eqb, ltb, leb}
 use lib.Pow.{field}
 use borrow.Author.Tests.{lt-ltb, le-ltb, lt-leb, le-leb, eqb-true, ne_eqb}
-use Rattle.layout.specs.declared.record.Destination.TheVariants.{Masked}
 use Rattle.layout.specs.declared.record.MaskedRegister.{MaskedRegister}
 use Rattle.paths.specs.computed.Sets.{has, adds}
 use Rattle.layout.specs.Swizzles.{bit_of, mask_components}
@@ -140,11 +140,11 @@ none_marked s r = go (ltb r 16) (ltb r 32)
 -- a token's write: a temporary's components are marked, and those of other registers are not kept
 pub in_written : (s : Written) (d : MaskedRegister) → (d.kind ≡ 2 → d.number < 32) → (n : ℕ)
     → component_set (mark_of s d.number (cond (eqb d.kind 2) d.mask 0)) n
-    ≡ adds (component_set s) (temporaries (writes_into (Masked d))) n
+    ≡ adds (component_set s) (temporaries (writes_into (Some d))) n
 in_written s d h n = go (eqb d.kind 2) refl
   where
     go : (b : Bool) → eqb d.kind 2 ≡ b
-        → component_set (mark_of s d.number (cond b d.mask 0)) n ≡ adds (component_set s) (temporaries (writes_into (Masked d))) n
+        → component_set (mark_of s d.number (cond b d.mask 0)) n ≡ adds (component_set s) (temporaries (writes_into (Some d))) n
     go true e =
         let k = eqb-true d.kind 2 e in
         in_mark s d.number d.mask (h k) n

@@ -1,11 +1,10 @@
 -- Document 01, "Ways, reads and writes": the components that a token reads through each source and those that it writes, over every
 -- register type, in rising order of register and component. By which selectors an opcode reads stands in the crate layout (Selections).
-use Rattle.std.specs.Prelude.{ℕ, zero, suc, ◌+◌, ◌*◌, ◌%◌, cond, List, [], ◌∷◌, ◌++◌, map, eqb}
+use Rattle.std.specs.Prelude.{ℕ, zero, suc, ◌+◌, ◌*◌, ◌%◌, cond, List, [], ◌∷◌, ◌++◌, map, eqb, None, Option, Some}
 use Rattle.layout.specs.Opcodes.{row_count2}
 use Rattle.layout.specs.Selections.{selectors1, components2}
 use Rattle.layout.specs.Swizzles.{mask_components, named}
-use Rattle.layout.specs.declared.record.Destination.{Destination}
-use Rattle.layout.specs.declared.record.Destination.TheVariants.{Unused as NoDestination, Masked}
+use Rattle.layout.specs.declared.record.MaskedRegister.{MaskedRegister}
 use Rattle.layout.specs.declared.record.Operand.{Operand}
 use Rattle.layout.specs.declared.record.Operand.TheVariants.{Unused as NoOperand, Direct, Indexed, Sampler as Sampled}
 use Rattle.layout.specs.declared.record.Token.{Token}
@@ -39,9 +38,9 @@ reads_through rows components (Sampled s) = []
 -- ---- a token
 
 -- no destination, no mask bit
-abbrev pub mask_of : Destination → ℕ
-mask_of NoDestination = 0
-mask_of (Masked r) = r.mask
+abbrev pub mask_of : Option MaskedRegister → ℕ
+mask_of None = 0
+mask_of (Some r) = r.mask
 
 -- the dimension of tex's sampler
 abbrev pub dimension_of : Operand → ℕ
@@ -61,9 +60,9 @@ abbrev pub reads2 : Token → List Component
 reads2 t = reads_through (row_count2 t.opcode) (components2 t.opcode (mask_of t.destination)) t.source2
 
 -- "a token with a destination writes the components of its mask"
-abbrev pub writes_into : Destination → List Component
-writes_into NoDestination = []
-writes_into (Masked r) = register_components r.kind r.number (mask_components r.mask)
+abbrev pub writes_into : Option MaskedRegister → List Component
+writes_into None = []
+writes_into (Some r) = register_components r.kind r.number (mask_components r.mask)
 
 -- what a token writes
 abbrev pub writes : Token → List Component

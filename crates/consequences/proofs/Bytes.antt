@@ -1,5 +1,6 @@
 -- Bytes and flat forms say all of a record, editions lose no register, and a number in text is one number.
 -- Assumes nothing.
+use Rattle.std.specs.Prelude.{Ok, Result}
 use Prim.Native.Nat.{ℕ, zero, suc, ◌<◌, ◌≤◌, zero-le}
 use mathlib.Core.List.{List, append-nil}
 use mathlib.Core.Path.{◌≡◌, refl, sym, ap, ◌∙◌, subst}
@@ -8,8 +9,8 @@ use native.Mathlib.Omega.{arith}
 use lib.Dec.{lit≤}
 use lib.ListN.{replicate}
 use Rattle.layout.specs.declared.record.Token.{Token}
+use Rattle.bytecode.specs.declared.answers.Refusal.{Refusal}
 use Rattle.bytecode.specs.Decode.{decode_of}
-use Rattle.bytecode.specs.declared.answers.Decoded.TheVariants.{Token as Decodes}
 use Rattle.bytecode.proofs.RoundTrip.{round_trip}
 use Rattle.registers.specs.Counts.{count_of}
 use Rattle.registers.proofs.Growth.{growth}
@@ -29,7 +30,7 @@ same_bytes s other t h k e f =
     ∙ sym (round_trip.bytes s t h e room (lit≤ tt)).1 ∙ (round_trip.bytes other t k f room (lit≤ tt)).1
     ∙ append-nil other
 
-one_token : (t other : Token) → Decodes t ≡ Decodes other → t ≡ other
+one_token : (t other : Token) → ◌≡◌ {A = Result Token Refusal} (Ok t) (Ok other) → t ≡ other
 one_token t other e = cc
 
 pub same_record : SameRecord

@@ -1,5 +1,6 @@
 -- An answer of check is the only one, and an accepted program's paths are safe at every visit.
 -- Assumes nothing.
+use Rattle.std.specs.Prelude.{Err, Ok, Result}
 use Prim.Native.Nat.{ℕ}
 use mathlib.Core.List.{List, [], ◌∷◌, ◌++◌}
 use mathlib.Core.Path.{◌≡◌, refl, sym, ap, ◌∙◌, subst}
@@ -15,8 +16,6 @@ use Rattle.verifier.specs.Verdict.{program}
 use Rattle.verifier.specs.Numbers.{checked_numbers}
 use Rattle.verifier.specs.Exact.{Exact}
 use Rattle.verifier.specs.declared.answers.Program.{Program}
-use Rattle.verifier.specs.declared.answers.Checked.{Checked}
-use Rattle.verifier.specs.declared.answers.Checked.TheVariants.{Accepted, Refused}
 use Rattle.verifier.proofs.BenchCases.{bench_checks}
 use Rattle.consequences.specs.Checking.{OneAnswer, OnlyAnswer, Demand3Agrees, AcceptedSafe, PassesBench}
 
@@ -24,18 +23,18 @@ use Rattle.consequences.specs.Checking.{OneAnswer, OnlyAnswer, Demand3Agrees, Ac
 
 module _ (edition : ℕ) (bytes : List ℕ) where
   -- an exact answer with the numbers of an acceptance is that acceptance, and one with a fault's is that refusal
-  pub is_accepted : (r : Checked) (a : Program) → Exact edition bytes r → checked_numbers r ≡ accepted_numbers a.stage a.tokens → Accepted a ≡ r
-  is_accepted (Accepted b) a x e = sym (ap (λ n. Accepted (program n.stage n.value)) e)
-  is_accepted (Refused f) a x e = absurd (omega (arith, (x.numbered f refl).0, ap (λ n. n.number) e))
+  pub is_accepted : (r : Result Program Refusal) (a : Program) → Exact edition bytes r → checked_numbers r ≡ accepted_numbers a.stage a.tokens → Ok a ≡ r
+  is_accepted (Ok b) a x e = sym (ap (λ n. Ok (program n.stage n.value)) e)
+  is_accepted (Err f) a x e = absurd (omega (arith, (x.numbered f refl).0, ap (λ n. n.number) e))
 
-  is_refused : (r : Checked) (f : Refusal) → IsFault f.number → checked_numbers r ≡ refused_numbers f.number f.token f.part → Refused f ≡ r
-  is_refused (Accepted b) f h e = absurd (omega (arith, h.0, ap (λ n. n.number) e))
-  is_refused (Refused g) f h e = sym (ap (λ n. Refused (refusal n.number n.token n.part)) e)
+  is_refused : (r : Result Program Refusal) (f : Refusal) → IsFault f.number → checked_numbers r ≡ refused_numbers f.number f.token f.part → Err f ≡ r
+  is_refused (Ok b) f h e = absurd (omega (arith, h.0, ap (λ n. n.number) e))
+  is_refused (Err g) f h e = sym (ap (λ n. Err (refusal n.number n.token n.part)) e)
 
-  same : (r other : Checked) → Exact edition bytes r → Exact edition bytes other → r ≡ other
-  same (Accepted a) other x y =
+  same : (r other : Result Program Refusal) → Exact edition bytes r → Exact edition bytes other → r ≡ other
+  same (Ok a) other x y =
       is_accepted other a y ((y.accepts a.stage a.tokens).1 ((x.accepts a.stage a.tokens).0 refl))
-  same (Refused f) other x y =
+  same (Err f) other x y =
       let (h, e) = (y.refuses f.number f.token f.part).1 ((x.refuses f.number f.token f.part).0 (x.numbered f refl, refl)) in
       is_refused other f h e
 
@@ -53,7 +52,7 @@ demand3_agrees edition bytes r other d c = record {
 
 -- ---- paths
 
-pub not_refused : (r : Checked) (a : Program) → r ≡ Accepted a → NotRefused (checked_numbers r)
+pub not_refused : (r : Result Program Refusal) (a : Program) → r ≡ Ok a → NotRefused (checked_numbers r)
 not_refused r a e = ap (λ x. (checked_numbers x).number) e
 
 -- every part of a list of visits that closes does

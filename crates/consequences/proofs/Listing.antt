@@ -1,5 +1,6 @@
 -- There is room for every text, and each token of an accepted program has a line.
 -- Assumes nothing.
+use Rattle.std.specs.Prelude.{Ok}
 use Prim.Native.Nat.{ℕ, zero, suc, ◌+◌, ◌<◌, ◌≤◌}
 use mathlib.Core.Bool.{true, false, and-false, false≢true}
 use mathlib.Core.List.{List}
@@ -13,7 +14,6 @@ use Rattle.layout.specs.Programs.{token_at}
 use Rattle.layout.specs.declared.record.Token.{Token}
 use Rattle.bytecode.specs.Fields.{record_of}
 use Rattle.bytecode.specs.Decode.{decode_of}
-use Rattle.bytecode.specs.declared.answers.Decoded.TheVariants.{Token as Gives}
 use Rattle.listing.specs.Line.{is_nameable}
 use Rattle.verifier.specs.Verdict.{program}
 use Rattle.report.specs.Lines.{Listable}
@@ -41,7 +41,7 @@ shallow t stage depth e =
 module _ (stage : ℕ) (bytes : List ℕ) where
   abbrev Named : ℕ → Type 0
   Named n =
-      (decode_of (token_at bytes n) ≡ Gives (record_of (token_at bytes n)))
+      (decode_of (token_at bytes n) ≡ Ok (record_of (token_at bytes n)))
       × (is_nameable (record_of (token_at bytes n)) stage (depth_of bytes n) ≡ true)
 
   -- token k, the i-th of so many from token n on

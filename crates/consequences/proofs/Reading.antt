@@ -1,5 +1,6 @@
 -- Whoever reads an accepted program on gets check's count and the program's bytes; a refusal stays.
 -- Assumes nothing.
+use Rattle.std.specs.Prelude.{Err, Ok, Result}
 use Prim.Native.Nat.{ℕ, zero, suc, ◌+◌, ◌-◌, ◌<◌}
 use mathlib.Core.Bool.{Bool, true, false, cond}
 use mathlib.Core.List.{List}
@@ -10,8 +11,6 @@ use native.Mathlib.Omega.{arith}
 use Rattle.layout.specs.declared.record.Token.{Token}
 use Rattle.bytecode.specs.Decode.{refusal, decode_of}
 use Rattle.bytecode.specs.declared.answers.Refusal.{Refusal}
-use Rattle.bytecode.specs.declared.answers.Decoded.{Decoded}
-use Rattle.bytecode.specs.declared.answers.Decoded.TheVariants.{Token as Gives, Refused}
 use Rattle.bytecode.proofs.RoundTrip.{round_trip}
 use Rattle.layout.specs.Programs.{token_at, no_token_left}
 use Rattle.reader.specs.Reading.{fault_at, stands_at, read_of, place_after}
@@ -24,14 +23,14 @@ use Rattle.consequences.specs.Reading.{AcceptedReadWhole, RefusedForEver, ShortR
 
 -- ---- an accepted program
 
-same_refusal : (f g : Refusal) → Refused f ≡ Refused g → f ≡ g
+same_refusal : (f g : Refusal) → ◌≡◌ {A = Result Token Refusal} (Err f) (Err g) → f ≡ g
 same_refusal f g e = cc
 
-not_both : {t : Token} {f : Refusal} → Gives t ≡ Refused f → ⊥
+not_both : {t : Token} {f : Refusal} → ◌≡◌ {A = Result Token Refusal} (Ok t) (Err f) → ⊥
 not_both e = let z : ◌≡◌ {A = ℕ} 0 1 = cc in absurd (omega arith)
 
 module _ (bytes : List ℕ) (count : ℕ) (opened : Opened) (reads : ℕ → Read) (gives : GivesTokens bytes count opened reads) where
-  inside : (i : ℕ) (t : Token) → (reads i).answer ≡ Gives t → i < count
+  inside : (i : ℕ) (t : Token) → (reads i).answer ≡ Ok t → i < count
   inside i t e =
       elim (dec_lt i count) [
         | yes h ↦ h
@@ -41,14 +40,14 @@ module _ (bytes : List ℕ) (count : ℕ) (opened : Opened) (reads : ℕ → Rea
       ]
 
   -- a read that is refused is one after the last token
-  past : (i : ℕ) (f : Refusal) → (reads i).answer ≡ Refused f → (j : ℕ) × (count + j ≡ i)
+  past : (i : ℕ) (f : Refusal) → (reads i).answer ≡ Err f → (j : ℕ) × (count + j ≡ i)
   past i f e =
       elim (dec_lt i count) [
         | yes h ↦ absurd (not_both (sym (gives.token i h) ∙ e))
         | no h ↦ (i - count, omega (arith, h))
       ]
 
-  again : (i : ℕ) (t : Token) → (reads i).answer ≡ Gives t → decode_of (token_at bytes i) ≡ Gives t
+  again : (i : ℕ) (t : Token) → (reads i).answer ≡ Ok t → decode_of (token_at bytes i) ≡ Ok t
   again i t e =
       let h = inside i t e in
       gives.decodes i h ∙ sym (gives.token i h) ∙ e
@@ -81,14 +80,14 @@ on s n i zero = rw (add-zero i) refl
 on s n i (suc j) = rw (add-suc i j) (ap (place_after s) (on s n i j))
 
 -- a read that is refused names the token where the reader stands
-stands : (s : List ℕ) (n : ℕ) (f : Refusal) → read_of s n ≡ Refused f → n ≡ f.token
+stands : (s : List ℕ) (n : ℕ) (f : Refusal) → read_of s n ≡ Err f → n ≡ f.token
 unfolding read_of
 stands s n f e = go (no_token_left s n) (decode_of (token_at s n)) e
   where
-    go : (none : Bool) (d : Decoded) → cond none (Refused (refusal 24 n 0)) (stands_at n d) ≡ Refused f → n ≡ f.token
+    go : (none : Bool) (d : Result Token Refusal) → cond none (Err (refusal 24 n 0)) (stands_at n d) ≡ Err f → n ≡ f.token
     go true d k = ap (λ g. g.token) (same_refusal (refusal 24 n 0) f k)
-    go false (Gives t) k = absurd (not_both k)
-    go false (Refused g) k = ap (λ x. x.token) (same_refusal (fault_at n g) f k)
+    go false (Ok t) k = absurd (not_both k)
+    go false (Err g) k = ap (λ x. x.token) (same_refusal (fault_at n g) f k)
 
 pub refused_for_ever : RefusedForEver
 refused_for_ever lent opened reads run i f e j =

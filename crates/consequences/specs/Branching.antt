@@ -1,5 +1,5 @@
 -- What whoever calls check concludes of the shape of a program: document 01's sentences on branches over the tree that the program is.
-use Rattle.std.specs.Prelude.{ℕ, suc, ◌<◌, ◌≤◌, ◌↔◌, ◌≡◌, length, take}
+use Rattle.std.specs.Prelude.{ℕ, suc, ◌<◌, ◌≤◌, ◌↔◌, ◌≡◌, length, take, Ok, Result}
 use mathlib.Core.List.{List, [], ◌∷◌, ◌++◌, Memᴰ, map}
 use Rattle.std.proofs.Math.Option.{none}
 use Rattle.bytecode.specs.Numbers.{refused_numbers}
@@ -13,8 +13,7 @@ use Rattle.faults.specs.Order.{tokens_of}
 use Rattle.verifier.specs.Numbers.{checked_numbers}
 use Rattle.verifier.specs.Exact.{HeaderRight, Checks}
 use Rattle.verifier.specs.declared.answers.Program.{Program}
-use Rattle.verifier.specs.declared.answers.Checked.{Checked}
-use Rattle.verifier.specs.declared.answers.Checked.TheVariants.{Accepted}
+use Rattle.bytecode.specs.declared.answers.Refusal.{Refusal}
 
 -- The header is right; the program is a tree of whole branches, at most sixteen of them open at once; no token breaks a rule of its own; and
 -- on no walk over the tree is a component read that was not written before.
@@ -30,13 +29,13 @@ pub record RightProgram (edition : ℕ) (bytes : List ℕ) : Type 0 where
 -- Exactly such programs are accepted.
 abbrev pub AcceptsRight : Type 0
 AcceptsRight =
-    (edition : ℕ) (bytes : List ℕ) (r : Checked) → Checks edition bytes r → ((a : Program) × (r ≡ Accepted a)) ↔ RightProgram edition bytes
+    (edition : ℕ) (bytes : List ℕ) (r : Result Program Refusal) → Checks edition bytes r → ((a : Program) × (r ≡ Ok a)) ↔ RightProgram edition bytes
 
 -- On every path of an accepted program a visit to an opener is followed by one to the eif that the branch has in the program's tree,
 -- whichever tree that is.
 abbrev pub BranchesClose : Type 0
 BranchesClose =
-    (edition : ℕ) (bytes : List ℕ) (r : Checked) (a : Program) → Checks edition bytes r → r ≡ Accepted a
+    (edition : ℕ) (bytes : List ℕ) (r : Result Program Refusal) (a : Program) → Checks edition bytes r → r ≡ Ok a
     → (t : Cut) → TreeOf (tokens_of edition bytes) t
     → (p : Path) (earlier : List Visit) (v : Visit) (later : List Visit) → visited p (tokens_of edition bytes) ≡ earlier ++ (v ∷ later)
     → v.token.flow ≡ opener → (e : ℕ) → CutHasBranch v.number e 0 t → Memᴰ e (map (λ u. u.number) later)
@@ -54,11 +53,11 @@ pub record UnwrittenAt (prog : List PathToken) (n : ℕ) : Type 0 where
 
 abbrev pub RefusedUnwritten : Type 0
 RefusedUnwritten =
-    (edition : ℕ) (bytes : List ℕ) (r : Checked) (n part : ℕ) → Checks edition bytes r → checked_numbers r ≡ refused_numbers 21 n part
+    (edition : ℕ) (bytes : List ℕ) (r : Result Program Refusal) (n part : ℕ) → Checks edition bytes r → checked_numbers r ≡ refused_numbers 21 n part
     → UnwrittenAt (tokens_of edition bytes) n
 
 -- Where check refuses with 22 at token n, this token opens a branch that has no eif.
 abbrev pub RefusedOpen : Type 0
 RefusedOpen =
-    (edition : ℕ) (bytes : List ℕ) (r : Checked) (n part : ℕ) → Checks edition bytes r → checked_numbers r ≡ refused_numbers 22 n part
+    (edition : ℕ) (bytes : List ℕ) (r : Result Program Refusal) (n part : ℕ) → Checks edition bytes r → checked_numbers r ≡ refused_numbers 22 n part
     → eif_of (tokens_of edition bytes) n ≡ none

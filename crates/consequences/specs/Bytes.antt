@@ -1,11 +1,9 @@
 -- What a caller concludes of bytes, records, registers and numbers in text.
-use Rattle.std.specs.Prelude.{ℕ, ◌<◌, ◌≤◌, ◌^◌, List, ◌++◌, ◌≡◌, T, length, take}
+use Rattle.std.specs.Prelude.{ℕ, ◌<◌, ◌≤◌, ◌^◌, List, ◌++◌, ◌≡◌, T, length, take, Ok}
 use Rattle.std.proofs.Math.Pow.{are_bytes}
 use Rattle.layout.specs.declared.record.Token.{Token}
 use Rattle.bytecode.specs.Decode.{decode_of}
 use Rattle.bytecode.specs.Encode.{encode_of, after_encode}
-use Rattle.bytecode.specs.declared.answers.Decoded.TheVariants.{Token as Decodes}
-use Rattle.bytecode.specs.declared.answers.Encoded.TheVariants.{Written}
 use Rattle.registers.specs.Counts.{count_of}
 use Rattle.listing.specs.Decimal.{IsDecimal, decimal}
 use Rattle.agal_c.specs.Flat.{flat_of}
@@ -17,19 +15,19 @@ use Rattle.agal_c.specs.Calls.{encoded_answer, encode_answer, after_flat_encode}
 -- A record says all of a token: two tokens that decode to the same record are the same bytes.
 abbrev pub SameBytes : Type 0
 SameBytes =
-    (s other : List ℕ) (t : Token) → T (are_bytes s) → T (are_bytes other) → decode_of s ≡ Decodes t → decode_of other ≡ Decodes t → s ≡ other
+    (s other : List ℕ) (t : Token) → T (are_bytes s) → T (are_bytes other) → decode_of s ≡ Ok t → decode_of other ≡ Ok t → s ≡ other
 
 -- A token says all of a record: two records that encode to the same 24 bytes, whatever buffers they go to, are the same record.
 abbrev pub SameRecord : Type 0
 SameRecord =
-    (t other : Token) (buffer room : List ℕ) → encode_of t buffer ≡ Written → encode_of other room ≡ Written
+    (t other : Token) (buffer room : List ℕ) → encode_of t buffer ≡ Ok tt → encode_of other room ≡ Ok tt
     → take 24 (after_encode t buffer) ≡ take 24 (after_encode other room) → t ≡ other
 
 -- Whoever decodes a token can encode its record into any buffer with room, and what is written there decodes to it again.
 abbrev pub CopiesDecode : Type 0
 CopiesDecode =
-    (s : List ℕ) (t : Token) → T (are_bytes s) → decode_of s ≡ Decodes t → (buffer : List ℕ) → 24 ≤ length buffer
-    → (encode_of t buffer ≡ Written) × (decode_of (take 24 (after_encode t buffer)) ≡ Decodes t)
+    (s : List ℕ) (t : Token) → T (are_bytes s) → decode_of s ≡ Ok t → (buffer : List ℕ) → 24 ≤ length buffer
+    → (encode_of t buffer ≡ Ok tt) × (decode_of (take 24 (after_encode t buffer)) ≡ Ok t)
 
 -- ---- flat forms
 

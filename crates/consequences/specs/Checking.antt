@@ -1,5 +1,5 @@
 -- What whoever calls check concludes, of whose answer nothing is known but the promise.
-use Rattle.std.specs.Prelude.{ℕ, ◌≡◌}
+use Rattle.std.specs.Prelude.{ℕ, ◌≡◌, Ok, Result}
 use mathlib.Core.List.{List, ◌∷◌, ◌++◌, Memᴰ, map}
 use Rattle.std.proofs.Math.Option.{some}
 use Rattle.bytecode.specs.Numbers.{NotRefused, refused_numbers}
@@ -10,25 +10,24 @@ use Rattle.verifier.specs.Numbers.{checked_numbers}
 use Rattle.verifier.specs.Exact.{Exact, Demand3, Checks}
 use Rattle.verifier.specs.BenchCases.{Case, bench_cases}
 use Rattle.verifier.specs.declared.answers.Program.{Program}
-use Rattle.verifier.specs.declared.answers.Checked.{Checked}
-use Rattle.verifier.specs.declared.answers.Checked.TheVariants.{Accepted}
+use Rattle.bytecode.specs.declared.answers.Refusal.{Refusal}
 
 -- Demand 2 leaves no choice: to the same bytes in the same edition there is one answer that meets it.
 abbrev pub OneAnswer : Type 0
-OneAnswer = (edition : ℕ) (bytes : List ℕ) (r other : Checked) → Exact edition bytes r → Exact edition bytes other → r ≡ other
+OneAnswer = (edition : ℕ) (bytes : List ℕ) (r other : Result Program Refusal) → Exact edition bytes r → Exact edition bytes other → r ≡ other
 
 -- So whoever finds an answer that meets demand 2, in whatever way, has the answer of check.
 abbrev pub OnlyAnswer : Type 0
-OnlyAnswer = (edition : ℕ) (bytes : List ℕ) (r other : Checked) → Checks edition bytes r → Exact edition bytes other → other ≡ r
+OnlyAnswer = (edition : ℕ) (bytes : List ℕ) (r other : Result Program Refusal) → Checks edition bytes r → Exact edition bytes other → other ≡ r
 
 -- Demand 3 leaves no choice about what it speaks of: where one answer that meets it accepts, or refuses with 21, every other does the same,
 -- with the same token and part.
-pub record Agrees (r other : Checked) : Type 0 where
+pub record Agrees (r other : Result Program Refusal) : Type 0 where
   pub accepts : NotRefused (checked_numbers r) → NotRefused (checked_numbers other)
   pub unwritten : (token part : ℕ) → checked_numbers r ≡ refused_numbers 21 token part → checked_numbers other ≡ refused_numbers 21 token part
 
 abbrev pub Demand3Agrees : Type 0
-Demand3Agrees = (edition : ℕ) (bytes : List ℕ) (r other : Checked) → Demand3 edition bytes r → Demand3 edition bytes other → Agrees r other
+Demand3Agrees = (edition : ℕ) (bytes : List ℕ) (r other : Result Program Refusal) → Demand3 edition bytes r → Demand3 edition bytes other → Agrees r other
 
 -- Wherever a path of an accepted program is cut in two before a visit: what this visit reads was written by an earlier one; and if it is to
 -- an opener, a later visit is to the eif of the same branch. So no path ends inside a branch.
@@ -44,8 +43,8 @@ SafePaths prog =
 
 abbrev pub AcceptedSafe : Type 0
 AcceptedSafe =
-    (edition : ℕ) (bytes : List ℕ) (r : Checked) (a : Program) → Checks edition bytes r → r ≡ Accepted a → SafePaths (tokens_of edition bytes)
+    (edition : ℕ) (bytes : List ℕ) (r : Result Program Refusal) (a : Program) → Checks edition bytes r → r ≡ Ok a → SafePaths (tokens_of edition bytes)
 
 -- Whatever meets the promise of check passes the bench.
 abbrev pub PassesBench : Type 0
-PassesBench = (k : Case) → Memᴰ k bench_cases → (r : Checked) → Checks k.edition k.bytes r → r ≡ k.answer
+PassesBench = (k : Case) → Memᴰ k bench_cases → (r : Result Program Refusal) → Checks k.edition k.bytes r → r ≡ k.answer

@@ -1,6 +1,6 @@
 -- What whoever sees the numbers of an answer alone concludes, of which nothing is known but the promises: all five of them, and what a lent
 -- buffer holds beside them.
-use Rattle.std.specs.Prelude.{ℕ, ◌+◌, ◌<◌, ◌≤◌, true, false, List, ◌++◌, ◌≡◌, length, drop}
+use Rattle.std.specs.Prelude.{ℕ, ◌+◌, ◌<◌, ◌≤◌, true, false, List, ◌++◌, ◌≡◌, length, drop, Result, ⊤}
 use Rattle.std.specs.Borrow.{Bor}
 use Rattle.layout.specs.Opcodes.{shape_of}
 use Rattle.layout.specs.Programs.{token_at, token_start}
@@ -10,11 +10,9 @@ use Rattle.bytecode.specs.Fields.{fields_of}
 use Rattle.bytecode.specs.Numbers.{Numbers, decoded_numbers, encoded_numbers}
 use Rattle.bytecode.specs.Decode.{unused_part, undefined_part, Decodes}
 use Rattle.bytecode.specs.Encode.{is_encodable, encoded_bytes, Encodes}
-use Rattle.bytecode.specs.declared.answers.Decoded.{Decoded}
-use Rattle.bytecode.specs.declared.answers.Encoded.{Encoded}
+use Rattle.bytecode.specs.declared.answers.Refusal.{Refusal}
 use Rattle.listing.specs.Line.{line_of, is_nameable, Lists}
 use Rattle.listing.specs.Printing.{printed_numbers, Prints}
-use Rattle.listing.specs.declared.answers.Printed.{Printed}
 use Rattle.reader.specs.Reading.{opening_numbers, ReadsAt, Opens}
 use Rattle.reader.specs.declared.answers.Opened.{Opened}
 
@@ -44,7 +42,7 @@ pub record DecodeTold (s : List ℕ) (told : Numbers) : Type 0 where
       → undefined_part (shape_in s) (fields_of s) ≡ 0 → told ≡ fine
 
 abbrev pub DecodeNumbers : Type 0
-DecodeNumbers = (s : List ℕ) (r : Decoded) → Decodes s r → DecodeTold s (decoded_numbers r)
+DecodeNumbers = (s : List ℕ) (r : Result Token Refusal) → Decodes s r → DecodeTold s (decoded_numbers r)
 
 -- ---- encode
 
@@ -55,7 +53,7 @@ pub record EncodeTold (t : Token) (before after : List ℕ) (told : Numbers) : T
   pub written : is_encodable t ≡ true → 24 ≤ length before → (told ≡ fine) × (after ≡ encoded_bytes t ++ drop 24 before)
 
 abbrev pub EncodeNumbers : Type 0
-EncodeNumbers = (t : Token) (before after : List ℕ) (r : Encoded) → Encodes t before after r → EncodeTold t before after (encoded_numbers r)
+EncodeNumbers = (t : Token) (before after : List ℕ) (r : Result ⊤ Refusal) → Encodes t before after r → EncodeTold t before after (encoded_numbers r)
 
 -- ---- texts
 
@@ -65,7 +63,7 @@ pub record PrintTold (text before after : List ℕ) (told : Numbers) : Type 0 wh
   pub written : length text ≤ length before → (told ≡ five 0 0 0 0 (length text)) × (after ≡ text ++ drop (length text) before)
 
 abbrev pub PrintNumbers : Type 0
-PrintNumbers = (text before after : List ℕ) (r : Printed) → Prints text before after r → PrintTold text before after (printed_numbers r)
+PrintNumbers = (text before after : List ℕ) (r : Result ℕ Refusal) → Prints text before after r → PrintTold text before after (printed_numbers r)
 
 -- The same of a line, but 25 comes first where the record has none. And whoever lends 128 bytes for a record that has one is given it, with
 -- number 0 and a length of at most 128.
@@ -77,7 +75,7 @@ pub record LineTold (t : Token) (stage depth : ℕ) (before after : List ℕ) (t
 
 abbrev pub LineNumbers : Type 0
 LineNumbers =
-    (t : Token) (stage depth : ℕ) (before after : List ℕ) (r : Printed) → Lists t stage depth before after r
+    (t : Token) (stage depth : ℕ) (before after : List ℕ) (r : Result ℕ Refusal) → Lists t stage depth before after r
     → LineTold t stage depth before after (printed_numbers r)
 
 -- ---- the reader
@@ -86,12 +84,12 @@ LineNumbers =
 -- names this token.
 pub record ReadTold (s : List ℕ) (n : ℕ) (told : Numbers) : Type 0 where
   pub ended : length s < token_start n + 24 → told ≡ five 24 n 0 0 0
-  pub refused : token_start n + 24 ≤ length s → (d : Decoded) → Decodes (token_at s n) d
+  pub refused : token_start n + 24 ≤ length s → (d : Result Token Refusal) → Decodes (token_at s n) d
       → (number part : ℕ) → 1 ≤ number → decoded_numbers d ≡ five number 0 part 0 0 → told ≡ five number n part 0 0
-  pub taken : token_start n + 24 ≤ length s → (d : Decoded) → Decodes (token_at s n) d → decoded_numbers d ≡ fine → told ≡ fine
+  pub taken : token_start n + 24 ≤ length s → (d : Result Token Refusal) → Decodes (token_at s n) d → decoded_numbers d ≡ fine → told ≡ fine
 
 abbrev pub ReadNumbers : Type 0
-ReadNumbers = (s : List ℕ) (n : ℕ) (r : Decoded) → ReadsAt s n r → ReadTold s n (decoded_numbers r)
+ReadNumbers = (s : List ℕ) (n : ℕ) (r : Result Token Refusal) → ReadsAt s n r → ReadTold s n (decoded_numbers r)
 
 -- 2 where there are fewer than 7 bytes, else 0.
 pub record OpenTold (s : List ℕ) (told : Numbers) : Type 0 where

@@ -1,5 +1,5 @@
 -- What whoever opens a program and reads on concludes, of whose answers nothing is known but the promises of open and read.
-use Rattle.std.specs.Prelude.{ℕ, suc, ◌+◌, ◌<◌, ◌≤◌, List, ◌++◌, ◌↔◌, ◌≡◌, T, length, drop}
+use Rattle.std.specs.Prelude.{ℕ, suc, ◌+◌, ◌<◌, ◌≤◌, List, ◌++◌, ◌↔◌, ◌≡◌, T, length, drop, Err, Ok, Result}
 use Rattle.std.proofs.Math.Pow.{are_bytes}
 use Rattle.std.specs.Borrow.{Bor}
 use Rattle.layout.specs.Programs.{token_at}
@@ -7,13 +7,10 @@ use Rattle.layout.specs.declared.record.Token.{Token}
 use Rattle.bytecode.specs.Decode.{refusal}
 use Rattle.bytecode.specs.Encode.{after_encode}
 use Rattle.bytecode.specs.declared.answers.Refusal.{Refusal}
-use Rattle.bytecode.specs.declared.answers.Decoded.TheVariants.{Token as Gives, Refused}
+use Rattle.verifier.specs.declared.answers.Program.{Program}
 use Rattle.verifier.specs.Verdict.{program}
 use Rattle.verifier.specs.Exact.{Checks}
-use Rattle.verifier.specs.declared.answers.Checked.{Checked}
-use Rattle.verifier.specs.declared.answers.Checked.TheVariants.{Accepted}
 use Rattle.reader.specs.Sequence.{Run}
-use Rattle.reader.specs.declared.answers.Opening.TheVariants.{Ready, Refused as NotOpened}
 use Rattle.reader.specs.declared.answers.Opened.{Opened}
 use Rattle.reader.specs.declared.answers.Read.{Read}
 
@@ -22,27 +19,27 @@ use Rattle.reader.specs.declared.answers.Read.{Read}
 -- bytes of token i, and the reader then stands at the next token. Whatever is refused is refused by 24, at the token count, and the reader
 -- stands there.
 pub record ReadWhole (bytes : List ℕ) (count : ℕ) (opened : Opened) (reads : ℕ → Read) : Type 0 where
-  pub ready : opened.answer ≡ Ready
-  pub counted : (i : ℕ) → (i < count) ↔ ((t : Token) × ((reads i).answer ≡ Gives t))
-  pub encoded : (i : ℕ) (t : Token) → (reads i).answer ≡ Gives t → T (are_bytes (token_at bytes i)) → (buffer : List ℕ) → 24 ≤ length buffer
+  pub ready : opened.answer ≡ Ok tt
+  pub counted : (i : ℕ) → (i < count) ↔ ((t : Token) × ((reads i).answer ≡ Ok t))
+  pub encoded : (i : ℕ) (t : Token) → (reads i).answer ≡ Ok t → T (are_bytes (token_at bytes i)) → (buffer : List ℕ) → 24 ≤ length buffer
       → after_encode t buffer ≡ token_at bytes i ++ drop 24 buffer
   pub next : (i : ℕ) → i < count → (reads i).reader.place ≡ suc i
-  pub refused : (i : ℕ) (f : Refusal) → (reads i).answer ≡ Refused f → (f ≡ refusal 24 count 0) × ((reads i).reader.place ≡ count)
+  pub refused : (i : ℕ) (f : Refusal) → (reads i).answer ≡ Err f → (f ≡ refusal 24 count 0) × ((reads i).reader.place ≡ count)
 
 abbrev pub AcceptedReadWhole : Type 0
 AcceptedReadWhole =
-    (edition : ℕ) (lent : Bor (List ℕ)) (r : Checked) (stage count : ℕ) (opened : Opened) (reads : ℕ → Read)
-    → Checks edition lent.now r → r ≡ Accepted (program stage count) → Run lent opened reads → ReadWhole lent.now count opened reads
+    (edition : ℕ) (lent : Bor (List ℕ)) (r : Result Program Refusal) (stage count : ℕ) (opened : Opened) (reads : ℕ → Read)
+    → Checks edition lent.now r → r ≡ Ok (program stage count) → Run lent opened reads → ReadWhole lent.now count opened reads
 
 -- Of any bytes: a read that is refused is refused alike for ever, and the reader stays at the token that the refusal names.
 abbrev pub RefusedForEver : Type 0
 RefusedForEver =
     (lent : Bor (List ℕ)) (opened : Opened) (reads : ℕ → Read) → Run lent opened reads
-    → (i : ℕ) (f : Refusal) → (reads i).answer ≡ Refused f → (j : ℕ)
-    → ((reads (i + j)).answer ≡ Refused f) × ((reads (i + j)).reader.place ≡ f.token)
+    → (i : ℕ) (f : Refusal) → (reads i).answer ≡ Err f → (j : ℕ)
+    → ((reads (i + j)).answer ≡ Err f) × ((reads (i + j)).reader.place ≡ f.token)
 
 -- Of fewer than 7 bytes: the opening is refused by 2, and every read by 24 at token 0, where the reader stays.
 abbrev pub ShortRefused : Type 0
 ShortRefused =
     (lent : Bor (List ℕ)) (opened : Opened) (reads : ℕ → Read) → Run lent opened reads → length lent.now < 7
-    → (opened.answer ≡ NotOpened (refusal 2 0 0)) × ((i : ℕ) → ((reads i).answer ≡ Refused (refusal 24 0 0)) × ((reads i).reader.place ≡ 0))
+    → (opened.answer ≡ Err (refusal 2 0 0)) × ((i : ℕ) → ((reads i).answer ≡ Err (refusal 24 0 0)) × ((reads i).reader.place ≡ 0))

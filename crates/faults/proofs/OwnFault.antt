@@ -1,5 +1,6 @@
 -- The fault that the code finds in a token by itself is the first of 9 to 19.
 -- Assumes nothing.
+use Rattle.std.specs.Prelude.{Err, Ok}
 use Prim.Native.Nat.{ℕ, ◌≤◌}
 use mathlib.Core.Bool.{Bool, true, false, not, cond}
 use mathlib.Core.List.{List, [], ◌∷◌, ◌++◌}
@@ -13,7 +14,6 @@ use Rattle.bytecode.specs.Fields.{fields_of, record_of}
 use Rattle.layout.specs.Records.{token_of}
 use Rattle.bytecode.specs.Decode.{refusal, no_refusal, decode_of, token_fault, unused_part, undefined_part}
 use Rattle.bytecode.specs.declared.answers.Refusal.{Refusal}
-use Rattle.bytecode.specs.declared.answers.Decoded.TheVariants.{Token as Accepted, Refused}
 use Rattle.layout.specs.declared.record.Operand.{Operand}
 use Rattle.layout.specs.declared.record.Operand.TheVariants.{Unused as NoOperand, Direct, Indexed, Sampler as Sampled}
 use Rattle.layout.specs.declared.record.Token.{Token}
@@ -80,7 +80,7 @@ module _ (edition stage n : ℕ) (s : List ℕ) (h : length s ≡ 24) where
   refused_chain false false false false true x y later r e z = rw e
   refused_chain false false false false false x y later r e z = absurd (z (ap (λ r. r.number) e))
 
-  pub refused_fault : (r : Refusal) → decode_of s ≡ Refused r
+  pub refused_fault : (r : Refusal) → decode_of s ≡ Err r
       → refusal_at n (first_fault (token_rules (λ k. count_of k edition stage) edition stage s)) ≡ undecoded_fault (profile_of edition stage) n r (fields_of s).opcode
   unfolding undecoded_fault token_fault
   refused_fault r e =
@@ -105,7 +105,7 @@ module _ (edition stage n : ℕ) (s : List ℕ) (h : length s ≡ 24) where
       ap (λ k. cond (opcode_too_new edition k) (refusal 10 n 0) (cond (opcode_not_for_stage stage k) (refusal 11 n 0) (refusal_at n (first_fault (record_rules (count_in (profile_of edition stage)) stage (record_of s)))))) opcode_of
       ∙ ap (λ c. cond (opcode_too_new edition (fields_of s).opcode) (refusal 10 n 0) (cond (opcode_not_for_stage stage (fields_of s).opcode) (refusal 11 n 0) (refusal_at n (first_fault (record_rules c stage (record_of s)))))) (counts_are edition stage)
 
-  pub taken_fault : (t : Token) → decode_of s ≡ Accepted t
+  pub taken_fault : (t : Token) → decode_of s ≡ Ok t
       → (t ≡ record_of s) × (refusal_at n (first_fault (token_rules (λ k. count_of k edition stage) edition stage s)) ≡ own_fault (profile_of edition stage) n t)
   taken_fault t e =
       let (l, f, q) = accepted s t e in

@@ -1,13 +1,12 @@
 -- Document 01, "Numbers of the faults": a rule for each of faults 1 to 19. Faults 20, 21 and 22 are those of branches and paths, and stand
 -- in the crate paths (Nesting, Unwritten, Faults).
-use Rattle.std.specs.Prelude.{ℕ, ◌+◌, ◌-◌, ◌%◌, Bool, false, not, ◌&&◌, ◌||◌, List, eqb, ltb, leb, length, get_or}
+use Rattle.std.specs.Prelude.{ℕ, ◌+◌, ◌-◌, ◌%◌, Bool, false, not, ◌&&◌, ◌||◌, List, eqb, ltb, leb, length, get_or, None, Option, Some}
 use Rattle.layout.specs.Layout.{word_at}
 use Rattle.layout.specs.Opcodes.{kil, is_added, is_fragment_only, is_three_wide, is_matrix}
 use Rattle.layout.specs.Programs.{stage_of, token_count}
 use Rattle.layout.specs.Samplers.{settings_wrong}
 use Rattle.layout.specs.Swizzles.{bit_of, selectors_agree}
-use Rattle.layout.specs.declared.record.Destination.{Destination}
-use Rattle.layout.specs.declared.record.Destination.TheVariants.{Unused as NoDestination, Masked}
+use Rattle.layout.specs.declared.record.MaskedRegister.{MaskedRegister}
 use Rattle.layout.specs.declared.record.DirectSource.{DirectSource}
 use Rattle.layout.specs.declared.record.IndexedSource.{IndexedSource}
 use Rattle.layout.specs.declared.record.Sampler.{Sampler}
@@ -65,14 +64,14 @@ opcode_not_for_stage stage opcode = eqb stage 0 && is_fragment_only opcode
 -- What is in an edition and a stage: how many registers of each kind. Rules 14 to 19 take it as `count`.
 
 -- 14: destination type not writable, or number not below its count
-abbrev pub destination_wrong : (ℕ → ℕ) → ℕ → Destination → Bool
-destination_wrong count stage NoDestination = false
-destination_wrong count stage (Masked r) = not (is_writable r.kind stage) || leb (count r.kind) r.number
+abbrev pub destination_wrong : (ℕ → ℕ) → ℕ → Option MaskedRegister → Bool
+destination_wrong count stage None = false
+destination_wrong count stage (Some r) = not (is_writable r.kind stage) || leb (count r.kind) r.number
 
 -- 15: mask 0; or w in the mask of nrm, crs, m33, m34
-abbrev pub mask_wrong : ℕ → Destination → Bool
-mask_wrong opcode NoDestination = false
-mask_wrong opcode (Masked r) = eqb r.mask 0 || (is_three_wide opcode && bit_of r.mask 3)
+abbrev pub mask_wrong : ℕ → Option MaskedRegister → Bool
+mask_wrong opcode None = false
+mask_wrong opcode (Some r) = eqb r.mask 0 || (is_three_wide opcode && bit_of r.mask 3)
 
 -- 16: D = 1 and: not a vertex program, or type not 1, or I above 2, or number not below I's count, or O + rows above the constant count
 abbrev pub indexed_wrong : (ℕ → ℕ) → ℕ → ℕ → IndexedSource → Bool

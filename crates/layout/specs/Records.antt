@@ -1,5 +1,5 @@
 -- Document 01, "Layout": the record that a token's fields make.
-use Rattle.std.specs.Prelude.{ℕ, ◌-◌, Bool, true, false, not, cond, eqb, ltb, ℤ, pos, negsuc}
+use Rattle.std.specs.Prelude.{ℕ, ◌-◌, Bool, true, false, not, cond, eqb, ltb, ℤ, pos, negsuc, None, Option, Some}
 use Rattle.layout.specs.Layout as layout
 use Rattle.layout.specs.Layout.{value_of}
 use Rattle.layout.specs.declared.opcodes.OperandShape.{OperandShape}
@@ -7,8 +7,6 @@ use Rattle.layout.specs.declared.opcodes.OperandShape.TheVariants.{Unused as NoF
 use Rattle.layout.specs.declared.opcodes.Shape.{Shape}
 use Rattle.layout.specs.declared.fields.Fields.{Fields}
 use Rattle.layout.specs.declared.record.MaskedRegister.{MaskedRegister}
-use Rattle.layout.specs.declared.record.Destination.{Destination}
-use Rattle.layout.specs.declared.record.Destination.TheVariants.{Unused as NoDestination, Masked}
 use Rattle.layout.specs.declared.record.DirectSource.{DirectSource}
 use Rattle.layout.specs.declared.record.IndexedSource.{IndexedSource}
 use Rattle.layout.specs.declared.record.Sampler.{Sampler}
@@ -70,9 +68,9 @@ sampler_of f =
       filter = value_of layout.filter f;
     }
 
-abbrev pub destination_of : Bool → ℕ → Destination
-destination_of true f = Masked (register_of f)
-destination_of false f = NoDestination
+abbrev pub destination_of : Bool → ℕ → Option MaskedRegister
+destination_of true f = Some (register_of f)
+destination_of false f = None
 
 abbrev pub operand_of : OperandShape → ℕ → Operand
 operand_of NoField f = NoOperand

@@ -8,12 +8,6 @@ pub struct MaskedRegister {
     pub kind: u8,
 }
 
-#[derive(Clone, Copy)]
-pub enum Destination {
-    Unused,
-    Masked(MaskedRegister),
-}
-
 // A source with D = 0. The format ignores the index kind and the component; the record keeps them.
 #[derive(Clone, Copy)]
 pub struct DirectSource {
@@ -61,7 +55,7 @@ pub enum Operand {
 #[derive(Clone, Copy)]
 pub struct Token {
     pub opcode: u32,
-    pub destination: Destination,
+    pub destination: Option<MaskedRegister>,
     pub source1: Operand,
     pub source2: Operand,
 }

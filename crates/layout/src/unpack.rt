@@ -7,15 +7,15 @@ ghost use Rattle.layout.specs.Records.{signed, register_of, is_indexed, direct_o
 
 use crate::bits;
 use crate::opcodes::OperandShape;
-use crate::record::{Destination, DirectSource, IndexedSource, MaskedRegister, Operand, Sampler};
+use crate::record::{DirectSource, IndexedSource, MaskedRegister, Operand, Sampler};
 
-pub fn unpack_destination(used: bool, field: u64) -> Destination
+pub fn unpack_destination(used: bool, field: u64) -> Option<MaskedRegister>
     ensures { result ≡ destination_of used field }
 {
     if used {
-        Destination::Masked(unpack_register(field))
+        Some(unpack_register(field))
     } else {
-        Destination::Unused
+        None
     }
 }
 

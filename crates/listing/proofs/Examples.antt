@@ -1,10 +1,10 @@
 -- Document 01's own lines, computed from the definitions: its two token lines, and a line with each of its two operands in code.
 -- Assumes nothing.
+use Rattle.std.specs.Prelude.{Option, Some}
 use Prim.Native.Nat.{ℕ}
 use mathlib.Core.Path.{◌≡◌, refl}
 use lib.IntN.{ℤ, negsuc}
-use Rattle.layout.specs.declared.record.Destination.{Destination}
-use Rattle.layout.specs.declared.record.Destination.TheVariants.{Masked}
+use Rattle.layout.specs.declared.record.MaskedRegister.{MaskedRegister}
 use Rattle.layout.specs.declared.record.Operand.{Operand}
 use Rattle.layout.specs.declared.record.Operand.TheVariants.{Unused, Direct, Indexed, Sampler as Sampled}
 use Rattle.layout.specs.declared.record.Token.{Token}
@@ -14,12 +14,12 @@ use Rattle.listing.specs.Names.{opcode_name, register_name}
 use Rattle.listing.specs.Items.{register_text, mask_text, swizzle_text, masked_text, direct_text, index_text, indexed_text, texture_text, sampling_text, bias_text, settings_text, sampler_text}
 use Rattle.listing.specs.Line.{line_of}
 
-abbrev token : ℕ → Destination → Operand → Operand → Token
+abbrev token : ℕ → Option MaskedRegister → Operand → Operand → Token
 token o d a b = record { opcode = o; destination = d; source1 = a; source2 = b }
 
 -- all four components of a register, by type and number
-abbrev written : ℕ → ℕ → Destination
-written k n = Masked (record { number = n; mask = 0xF; kind = k })
+abbrev written : ℕ → ℕ → Option MaskedRegister
+written k n = Some (record { number = n; mask = 0xF; kind = k })
 
 abbrev read : ℕ → ℕ → Operand
 read k n = Direct (record { number = n; offset = 0; swizzle = 0xE4; kind = k; index_kind = 0; component = 0 })

@@ -1,5 +1,6 @@
 -- What is known of an operand once its case is, and the room that the operands of an encodable record take.
 -- Assumes nothing.
+use Rattle.std.specs.Prelude.{Option, Some}
 use Prim.Native.Nat.{ℕ, ◌≤◌}
 use mathlib.Core.Bool.{Bool, true, false, not, cond, ◌||◌, false≢true}
 use mathlib.Core.Path.{◌≡◌, refl, ◌∙◌, sym, ap}
@@ -11,8 +12,6 @@ use Rattle.bytecode.specs.Encode.{is_encodable, operand_fits}
 use Rattle.layout.specs.declared.opcodes.OperandShape.{OperandShape}
 use Rattle.layout.specs.declared.opcodes.OperandShape.TheVariants.{Unused as NoField, Source as SourceField, Sampler as SamplerField}
 use Rattle.layout.specs.declared.opcodes.Shape.{Shape}
-use Rattle.layout.specs.declared.record.Destination.{Destination}
-use Rattle.layout.specs.declared.record.Destination.TheVariants.{Masked}
 use Rattle.layout.specs.declared.record.MaskedRegister.{MaskedRegister}
 use Rattle.layout.specs.declared.record.DirectSource.{DirectSource}
 use Rattle.layout.specs.declared.record.IndexedSource.{IndexedSource}
@@ -24,7 +23,7 @@ use Rattle.laws.proofs.Every.{both}
 use Rattle.listing.specs.Line.{has_name, destination_has_names, operand_has_names, is_nameable}
 use Rattle.listing.specs.computed.Writers.{operand_room, Nameable}
 
-pub masked_kind_lem : {d : Destination} {r : MaskedRegister} → d ≡ Masked r → destination_has_names d ≡ true → r.kind ≤ 6
+pub masked_kind_lem : {d : Option MaskedRegister} {r : MaskedRegister} → d ≡ Some r → destination_has_names d ≡ true → r.kind ≤ 6
 masked_kind_lem {r = r} e h = leb-true r.kind 6 (sym (ap destination_has_names e) ∙ h)
 
 pub direct_kind : {o : Operand} {s : DirectSource} → o ≡ Direct s → operand_has_names o ≡ true → s.kind ≤ 6

@@ -1,5 +1,6 @@
 -- What is answered of a text, from what was written.
 -- Assumes nothing.
+use Rattle.std.specs.Prelude.{Err, Ok, Result}
 use Prim.Native.Nat.{ℕ, ◌<◌, ◌≤◌}
 use mathlib.Core.Bool.{false}
 use mathlib.Core.List.{List, ◌++◌}
@@ -13,10 +14,8 @@ use Rattle.bytecode.specs.Decode.{refusal}
 use Rattle.bytecode.specs.declared.answers.Refusal.{Refusal}
 use Rattle.listing.specs.Printing.{print_fault, print_answer, after_print, Prints}
 use Rattle.listing.specs.computed.Writers.{Appends}
-use Rattle.listing.specs.declared.answers.Printed.{Printed}
-use Rattle.listing.specs.declared.answers.Printed.TheVariants.{Length, Refused}
 
-pub too_short : (text buffer : List ℕ) → length buffer < length text → Prints text buffer buffer (Refused (refusal 23 0 0))
+pub too_short : (text buffer : List ℕ) → length buffer < length text → Prints text buffer buffer (Err (refusal 23 0 0))
 unfolding print_fault print_answer after_print
 too_short text buffer h =
     let l = lt-ltb (length buffer) (length text) h in
@@ -28,7 +27,7 @@ measured {after = after} {n = n} a h = sym (length-take-le n after h) ∙ ap len
 
 -- the text was written to the buffer itself, which has the room for it
 pub printed : {text before after : List ℕ} {most n : ℕ} → Appends text most 0 before after n → most ≤ length before → length after ≡ length before
-    → Prints text before after (Length n) × (length text ≤ most)
+    → Prints text before after (Ok n) × (length text ≤ most)
 unfolding print_fault print_answer after_print
 printed {text} {before} {after} {n = n} a h k =
     let inside : n ≤ length after = omega (arith, a.room, h, k) in
@@ -43,7 +42,7 @@ printed {text} {before} {after} {n = n} a h k =
     )
 
 -- it was written to an array, which has the room for it, and what is there was then printed
-pub by_way_of : {text empty whole before after : List ℕ} {most n : ℕ} {r : Printed} → Appends text most 0 empty whole n → most ≤ length whole
+pub by_way_of : {text empty whole before after : List ℕ} {most n : ℕ} {r : Result ℕ Refusal} → Appends text most 0 empty whole n → most ≤ length whole
     → Prints (take n whole) before after r → Prints text before after r × (length text ≤ most)
 by_way_of {whole = whole} {before = before} {after = after} {n = n} {r = r} a h p =
     let inside : n ≤ length whole = omega (arith, a.room, h) in
@@ -51,19 +50,19 @@ by_way_of {whole = whole} {before = before} {after = after} {n = n} {r = r} a h 
 
 -- ---- a text that was lent the room for it
 
-abbrev length_in : Printed → ℕ
-length_in (Length n) = n
-length_in (Refused r) = 0
+abbrev length_in : Result ℕ Refusal → ℕ
+length_in (Ok n) = n
+length_in (Err r) = 0
 
-abbrev IsLength : Printed → Type 0
-IsLength (Length n) = Unit {0}
-IsLength (Refused r) = ⊥
+abbrev IsLength : Result ℕ Refusal → Type 0
+IsLength (Ok n) = Unit {0}
+IsLength (Err r) = ⊥
 
-module _ {text before after : List ℕ} {r : Printed} (p : Prints text before after r) (h : length text ≤ length before) where
+module _ {text before after : List ℕ} {r : Result ℕ Refusal} (p : Prints text before after r) (h : length text ≤ length before) where
   fits : ltb (length before) (length text) ≡ false
   fits = le-ltb (length before) (length text) h
 
-  is_length : r ≡ Length (length text)
+  is_length : r ≡ Ok (length text)
   unfolding print_answer
   is_length = p.answer ∙ simp fits
 
@@ -71,10 +70,10 @@ module _ {text before after : List ℕ} {r : Printed} (p : Prints text before af
   unfolding after_print
   follows = p.buffer ∙ simp fits
 
-  pub not_refused : (f : Refusal) → r ≡ Refused f → ⊥
+  pub not_refused : (f : Refusal) → r ≡ Err f → ⊥
   not_refused f e = subst IsLength (sym is_length ∙ e) tt
 
-  pub appended : (n : ℕ) → r ≡ Length n → Appends text (length text) 0 before after n
+  pub appended : (n : ℕ) → r ≡ Ok n → Appends text (length text) 0 before after n
   appended n e =
       let m : n ≡ length text = ap length_in (sym e ∙ is_length) in
       rw (m, follows)

@@ -1,13 +1,11 @@
 -- Document 01, "Listing": the items that a line is made of.
-use Rattle.std.specs.Prelude.{ℕ, ◌*◌, cond, List, [], ◌∷◌, ◌++◌, eqb, replicate}
+use Rattle.std.specs.Prelude.{ℕ, ◌*◌, cond, List, [], ◌∷◌, ◌++◌, eqb, replicate, None, Option, Some}
 use Prim.Native.Char.{code}
 use Rattle.listing.specs.Text.{ascii, when}
 use Rattle.listing.specs.Decimal.{decimal, signed_decimal}
 use Rattle.listing.specs.Names.{register_name, dimension_name, mipmap_name, wrap_name, filter_name}
 use Rattle.layout.specs.Swizzles.{bit_of, selector}
 use Rattle.layout.specs.declared.record.MaskedRegister.{MaskedRegister}
-use Rattle.layout.specs.declared.record.Destination.{Destination}
-use Rattle.layout.specs.declared.record.Destination.TheVariants.{Unused as NoDestination, Masked}
 use Rattle.layout.specs.declared.record.DirectSource.{DirectSource}
 use Rattle.layout.specs.declared.record.IndexedSource.{IndexedSource}
 use Rattle.layout.specs.declared.record.Sampler.{Sampler}
@@ -84,9 +82,9 @@ unfoldable pub sampler_text : ℕ → Sampler → List ℕ
 sampler_text stage s = ascii " " ++ register_text stage s.kind s.number ++ settings_text s
 
 -- "used operands": an unused one prints nothing, not even its space
-abbrev pub destination_text : ℕ → Destination → List ℕ
-destination_text stage NoDestination = []
-destination_text stage (Masked r) = masked_text stage r
+abbrev pub destination_text : ℕ → Option MaskedRegister → List ℕ
+destination_text stage None = []
+destination_text stage (Some r) = masked_text stage r
 
 abbrev pub operand_text : ℕ → Operand → List ℕ
 operand_text stage NoOperand = []

@@ -5,7 +5,6 @@ ghost use Rattle.listing.specs.First.{heading_line, refusal_line, first_line};
 ghost use Rattle.listing.specs.computed.Writers.{first_most, Appends};
 ghost use Rattle.listing.specs.Printing.{Prints};
 
-use crate::answers::Printed;
 use crate::{decimal, printing, text};
 use bytecode::answers::Refusal;
 
@@ -25,12 +24,12 @@ pub enum FirstLine {
     InputTooLong,
 }
 
-pub fn first_line(first: FirstLine, out: &mut [u8]) -> Printed
+pub fn first_line(first: FirstLine, out: &mut [u8]) -> Result<usize, Refusal>
     ensures { Prints (first_line first) out.old out.new result × (length (first_line first) ≤ first_most first) }
 {
     // No first line is longer.
     if 49 <= out.len() {
-        return Printed::Length(put_first_line(out, first));
+        return Ok(put_first_line(out, first));
     }
     // Its length is known once it is written, so where the buffer may be too short it is written here first.
     let mut whole = [0u8; 49];

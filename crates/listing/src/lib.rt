@@ -1,7 +1,6 @@
 // The lines of a listing: a token record as text, and the first line.
 #![tactic(auto)]
 
-pub mod answers;
 mod decimal;
 pub mod first;
 mod items;

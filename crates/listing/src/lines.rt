@@ -3,20 +3,20 @@ ghost use Rattle.std.specs.Prelude.{◌≤◌, length};
 ghost use Rattle.listing.specs.Line.{line_of, Lists};
 ghost use Rattle.listing.specs.computed.Writers.{Appends, Nameable};
 
-use crate::answers::Printed;
 use crate::{items, nameable, names, operands, printing, text};
+use bytecode::answers::Refusal;
 use layout::record::Token;
 
 // A stage is 0, vertex, or 1, fragment; a depth is 0 to 16.
-pub fn line(token: Token, stage: u8, depth: u8, out: &mut [u8]) -> Printed
+pub fn line(token: Token, stage: u8, depth: u8, out: &mut [u8]) -> Result<usize, Refusal>
     ensures { Lists token stage depth out.old out.new result }
 {
     if !nameable::nameable(token, stage, depth) {
-        return Printed::Refused(bytecode::refusal(25, 0, 0));
+        return Err(bytecode::refusal(25, 0, 0));
     }
     // No line is longer.
     if 128 <= out.len() {
-        return Printed::Length(put_line(out, token, stage, depth));
+        return Ok(put_line(out, token, stage, depth));
     }
     // Its length is known once it is written, so where the buffer may be too short it is written here first.
     let mut whole = [0u8; 128];

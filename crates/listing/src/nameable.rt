@@ -2,7 +2,7 @@
 ghost use Rattle.std.specs.Prelude.{◌≡◌};
 ghost use Rattle.listing.specs.Line.{is_nameable, destination_has_names, operand_has_names};
 
-use layout::record::{Destination, Operand, Token};
+use layout::record::{MaskedRegister, Operand, Token};
 
 pub(crate) fn nameable(token: Token, stage: u8, depth: u8) -> bool
     ensures { result ≡ is_nameable token stage depth }
@@ -18,12 +18,12 @@ pub(crate) fn nameable(token: Token, stage: u8, depth: u8) -> bool
         & operand_has_names(source2)
 }
 
-fn destination_has_names(destination: Destination) -> bool
+fn destination_has_names(destination: Option<MaskedRegister>) -> bool
     ensures { result ≡ destination_has_names destination }
 {
     match destination {
-        Destination::Unused => true,
-        Destination::Masked(register) => register.kind <= 6,
+        None => true,
+        Some(register) => register.kind <= 6,
     }
 }
 

@@ -5,13 +5,13 @@ ghost use Rattle.listing.specs.computed.Writers.{Appends, operand_room};
 ghost use Rattle.listing.specs.Line.{destination_has_names, operand_has_names};
 
 use crate::{decimal, items, names, settings, text};
-use layout::record::{Destination, DirectSource, IndexedSource, MaskedRegister, Operand, Sampler};
+use layout::record::{DirectSource, IndexedSource, MaskedRegister, Operand, Sampler};
 
 pub(crate) fn put_destination(
     out: &mut [u8],
     at: usize,
     stage: u8,
-    destination: Destination,
+    destination: Option<MaskedRegister>,
 ) -> usize
     requires at_in_bounds { at + 13 ≤ length out.old }
     requires stage_bound { stage ≤ 1 }
@@ -19,8 +19,8 @@ pub(crate) fn put_destination(
     ensures { Appends (destination_text stage destination) 13 at out.old out.new result }
 {
     match destination {
-        Destination::Unused => at,
-        Destination::Masked(register) => put_masked(out, at, stage, register),
+        None => at,
+        Some(register) => put_masked(out, at, stage, register),
     }
 }
 

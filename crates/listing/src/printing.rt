@@ -1,14 +1,14 @@
 // A whole text into a lent buffer, or the refusal with every byte as it was.
 ghost use Rattle.listing.specs.Printing.{Prints};
 
-use crate::answers::Printed;
 use crate::text;
+use bytecode::answers::Refusal;
 
-pub(crate) fn print(text: &[u8], out: &mut [u8]) -> Printed
+pub(crate) fn print(text: &[u8], out: &mut [u8]) -> Result<usize, Refusal>
     ensures { Prints text.now out.old out.new result }
 {
     if out.len() < text.len() {
-        return Printed::Refused(bytecode::refusal(23, 0, 0));
+        return Err(bytecode::refusal(23, 0, 0));
     }
-    Printed::Length(text::put_bytes(out, 0, text))
+    Ok(text::put_bytes(out, 0, text))
 }

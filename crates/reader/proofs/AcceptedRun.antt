@@ -1,5 +1,6 @@
 -- Whoever opens an accepted program and reads on is given its tokens in order, and then 24 for ever.
 -- Assumes nothing.
+use Rattle.std.specs.Prelude.{Ok}
 use Prim.Native.Nat.{ℕ, zero, suc, ◌+◌}
 use mathlib.Core.List.{List}
 use mathlib.Core.Path.{◌≡◌, ◌∙◌, sym, ap}
@@ -9,7 +10,6 @@ use Rattle.layout.specs.declared.record.Token.{Token}
 use Rattle.bytecode.specs.Fields.{record_of}
 use Rattle.layout.specs.Programs.{token_at}
 use Rattle.verifier.specs.Verdict.{program, verdict}
-use Rattle.verifier.specs.declared.answers.Checked.TheVariants.{Accepted as IsAccepted}
 use Rattle.verifier.proofs.AcceptedTokens.{accepted_decodes}
 use Rattle.reader.specs.Reading.{read_of, place_after}
 use Rattle.reader.specs.Sequence.{place_opened, HoldsTokens, Run, ReadsAccepted}
@@ -45,7 +45,7 @@ module _ (lent : Bor (List ℕ)) (opened : Opened) (reads : ℕ → Read) (run :
       ∙ ap (read_of lent.now) (place_run i)
 
 -- what the check tells of an accepted program's bytes
-module _ (edition : ℕ) (bytes : List ℕ) (stage count : ℕ) (e : verdict edition bytes ≡ IsAccepted (program stage count)) where
+module _ (edition : ℕ) (bytes : List ℕ) (stage count : ℕ) (e : verdict edition bytes ≡ Ok (program stage count)) where
   abbrev record_at : ℕ → Token
   record_at i = record_of (token_at bytes i)
 

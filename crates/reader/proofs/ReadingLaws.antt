@@ -1,5 +1,6 @@
 -- What a read answers, from the number of bytes left, and where it leaves the reader.
 -- Assumes nothing.
+use Rattle.std.specs.Prelude.{Err, Ok, Result}
 use Prim.Native.Nat.{ℕ, ◌+◌, ◌<◌, ◌≤◌}
 use mathlib.Core.Bool.{Bool, true, false, not, cond}
 use mathlib.Core.List.{List, []}
@@ -9,26 +10,23 @@ use lib.Dec.{ltb, eqb}
 use lib.ListN.{length}
 use borrow.Author.Tests.{le-ltb, lt-ltb, ltb-true, ltb-false}
 use Rattle.bytecode.specs.Fields.{fields_of}
-use Rattle.bytecode.specs.Decode.{refusal, no_refusal, unused_part, undefined_part, token_fault, decode_fault, decode_of}
+use Rattle.bytecode.specs.Decode.{refusal, no_refusal, unused_part, undefined_part, token_fault, decode_fault, decode_of, outcome}
 use Rattle.bytecode.specs.Numbers.{accepted_numbers, refusal_numbers, found_numbers, decoded_numbers}
 use Rattle.layout.specs.Opcodes.{shape_of}
 use Rattle.layout.specs.declared.opcodes.Shape.{Shape}
 use Rattle.layout.specs.declared.fields.Fields.{Fields}
 use Rattle.layout.specs.declared.record.Token.{Token}
 use Rattle.bytecode.specs.declared.answers.Refusal.{Refusal}
-use Rattle.bytecode.specs.declared.answers.Decoded.{Decoded}
-use Rattle.bytecode.specs.declared.answers.Decoded.TheVariants.{Token as Accepted, Refused}
 use Rattle.layout.specs.Programs.{token_at, token_start, no_token_left}
-use Rattle.reader.specs.declared.answers.Opening.TheVariants.{Ready, Refused as NotOpened}
 use Rattle.reader.specs.Reading.{opening_fault, opening_numbers, opening_of, stands_at, fault_at, read_of, read_fault, place_from, place_after, ReadsAt}
 use Rattle.reader.specs.computed.Steps.{token_bytes, Steps}
 
 module _ (s : List ℕ) where
-  pub too_short : length s < 7 → NotOpened (refusal 2 0 0) ≡ opening_of s
+  pub too_short : length s < 7 → Err (refusal 2 0 0) ≡ opening_of s
   unfolding opening_of opening_fault
   too_short h = simp (lt-ltb (length s) 7 h)
 
-  pub long_enough : 7 ≤ length s → Ready ≡ opening_of s
+  pub long_enough : 7 ≤ length s → Ok tt ≡ opening_of s
   unfolding opening_of opening_fault
   long_enough h = simp (le-ltb (length s) 7 h)
 
@@ -37,7 +35,7 @@ module _ (s : List ℕ) where
   unfolding opening_of opening_fault
   opening_numbers_lem = go (ltb (length s) 7)
     where
-      go : (short : Bool) → opening_numbers (cond (eqb (cond short (refusal 2 0 0) no_refusal).number 0) Ready (NotOpened (cond short (refusal 2 0 0) no_refusal))) ≡ found_numbers (cond short (refusal 2 0 0) no_refusal) 0 0
+      go : (short : Bool) → opening_numbers (outcome (cond short (refusal 2 0 0) no_refusal)) ≡ found_numbers (cond short (refusal 2 0 0) no_refusal) 0 0
       go true = refl
       go false = refl
 
@@ -47,7 +45,7 @@ unfolding decode_of
 stands_numbers n s = go (eqb (decode_fault s).number 0) _
   where
     go : (fine : Bool) (t : Token)
-        → decoded_numbers (stands_at n (cond fine (Accepted t) (Refused (decode_fault s)))) ≡ cond fine (accepted_numbers 0 0) (refusal_numbers (fault_at n (decode_fault s)))
+        → decoded_numbers (stands_at n (cond fine (Ok t) (Err (decode_fault s)))) ≡ cond fine (accepted_numbers 0 0) (refusal_numbers (fault_at n (decode_fault s)))
     go true t = refl
     go false t = refl
 
@@ -74,12 +72,12 @@ pub stands_first : (s : List ℕ) → stands_at 0 (decode_of s) ≡ decode_of s
 unfolding decode_of
 stands_first s = go (eqb (decode_fault s).number 0) _
   where
-    go : (fine : Bool) (t : Token) → stands_at 0 (cond fine (Accepted t) (Refused (decode_fault s))) ≡ cond fine (Accepted t) (Refused (decode_fault s))
+    go : (fine : Bool) (t : Token) → stands_at 0 (cond fine (Ok t) (Err (decode_fault s))) ≡ cond fine (Ok t) (Err (decode_fault s))
     go true t = refl
-    go false t = ap (λ n. Refused (refusal (decode_fault s).number n (decode_fault s).part)) (sym (fault_token s))
+    go false t = ap (λ n. Err (refusal (decode_fault s).number n (decode_fault s).part)) (sym (fault_token s))
 
 module _ (s : List ℕ) (n : ℕ) where
-  pub none_left : length s < token_start n + 24 → ReadsAt s n (Refused (refusal 24 n 0))
+  pub none_left : length s < token_start n + 24 → ReadsAt s n (Err (refusal 24 n 0))
   unfolding read_of read_fault
   none_left h = let e = lt-ltb (length s) (token_start n + 24) h in record { answer = simp e; numbers = simp e }
 
@@ -105,26 +103,26 @@ module _ (s : List ℕ) (n : ℕ) where
       go false l = one_left (ltb-false _ _ l)
 
   -- a token that is read stands whole within the program
-  pub token_left : (t : Token) → read_of s n ≡ Accepted t → token_start n + 24 ≤ length s
+  pub token_left : (t : Token) → read_of s n ≡ Ok t → token_start n + 24 ≤ length s
   unfolding read_of
   token_left t e = go (no_token_left s n) refl e
     where
-      go : (none : Bool) → no_token_left s n ≡ none → cond none (Refused (refusal 24 n 0)) (stands_at n (decode_of (token_at s n))) ≡ Accepted t → token_start n + 24 ≤ length s
+      go : (none : Bool) → no_token_left s n ≡ none → cond none (Err (refusal 24 n 0)) (stands_at n (decode_of (token_at s n))) ≡ Ok t → token_start n + 24 ≤ length s
       go true l h = let z : ◌≡◌ {A = ℕ} 0 1 = cc in absurd (omega arith)
       go false l h = ltb-false _ _ l
 
-  pub moves_on : (t : Token) → read_of s n ≡ Accepted t → place_after s n ≡ n + 1
+  pub moves_on : (t : Token) → read_of s n ≡ Ok t → place_after s n ≡ n + 1
   unfolding place_after
   moves_on t e = ap (place_from n) e
 
-  pub stays : (r : Refusal) → read_of s n ≡ Refused r → place_after s n ≡ n
+  pub stays : (r : Refusal) → read_of s n ≡ Err r → place_after s n ≡ n
   unfolding place_after
   stays r e = ap (place_from n) e
 
   -- the step after an answer
-  module _ (d : Decoded) (reads : ReadsAt s n d) where
-    pub steps_on : (t : Token) → d ≡ Accepted t → Steps s n (record { answer = Accepted t; place = n + 1 })
+  module _ (d : Result Token Refusal) (reads : ReadsAt s n d) where
+    pub steps_on : (t : Token) → d ≡ Ok t → Steps s n (record { answer = Ok t; place = n + 1 })
     steps_on t e = record { reads = rw e at reads; place = sym (moves_on t (sym reads.answer ∙ e)) }
 
-    pub steps_nowhere : (r : Refusal) → d ≡ Refused r → Steps s n (record { answer = Refused r; place = n })
+    pub steps_nowhere : (r : Refusal) → d ≡ Err r → Steps s n (record { answer = Err r; place = n })
     steps_nowhere r e = record { reads = rw e at reads; place = sym (stays r (sym reads.answer ∙ e)) }

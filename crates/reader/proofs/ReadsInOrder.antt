@@ -1,5 +1,6 @@
 -- Reading from the opening gives the program's tokens in order, and then 24 for ever; a refused token is refused for ever.
 -- Assumes nothing.
+use Rattle.std.specs.Prelude.{Err, Ok}
 use Prim.Native.Nat.{ℕ, zero, suc, ◌+◌, ◌<◌, ◌≤◌}
 use mathlib.Core.List.{List}
 use mathlib.Core.Path.{◌≡◌, refl, ◌∙◌, sym, ap}
@@ -10,7 +11,6 @@ use lib.ListN.{length, length-take, length-drop}
 use Rattle.bytecode.specs.Decode.{refusal, decode_of}
 use Rattle.layout.specs.declared.record.Token.{Token}
 use Rattle.bytecode.specs.declared.answers.Refusal.{Refusal}
-use Rattle.bytecode.specs.declared.answers.Decoded.TheVariants.{Token as Accepted, Refused}
 use Rattle.bytecode.proofs.DecodeLaws.{accepted}
 use Rattle.layout.specs.Programs.{token_at, token_start}
 use Rattle.reader.specs.Reading.{stands_at, read_of, place_after}
@@ -23,10 +23,10 @@ whole s n e = omega (arith, simp (length-take, length-drop) at e)
 
 module _ (s : List ℕ) where
   -- a token that decodes is what a read answers
-  pub reads_token : (n : ℕ) (t : Token) → decode_of (token_at s n) ≡ Accepted t → read_of s n ≡ Accepted t
+  pub reads_token : (n : ℕ) (t : Token) → decode_of (token_at s n) ≡ Ok t → read_of s n ≡ Ok t
   reads_token n t e = sym (one_left s n (whole s n (accepted (token_at s n) t e).0)).answer ∙ ap (stands_at n) e
 
-  pub stays_refused : (n : ℕ) (r : Refusal) → read_of s n ≡ Refused r → StaysRefused s n r
+  pub stays_refused : (n : ℕ) (r : Refusal) → read_of s n ≡ Err r → StaysRefused s n r
   stays_refused n r e = record { place = place; answer = λ reads. rw (place reads) e }
     where
       place : (reads : ℕ) → place_after_reads s n reads ≡ n

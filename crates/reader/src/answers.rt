@@ -1,5 +1,6 @@
 // The reader, and what opening and reading answer.
-use bytecode::answers::{Decoded, Refusal};
+use bytecode::answers::Refusal;
+use layout::record::Token;
 
 // The lent program, and the reader's place in it: the number of tokens read, which is the number of the token it stands at.
 #[derive(Clone, Copy)]
@@ -8,21 +9,15 @@ pub struct TokenReader<'a> {
     pub place: usize,
 }
 
-#[derive(Clone, Copy)]
-pub enum Opening {
-    Ready,
-    Refused(Refusal),
-}
-
 // A refused opening has a reader too, and its reads answer that no whole token is left.
 #[derive(Clone, Copy)]
 pub struct Opened<'a> {
-    pub answer: Opening,
+    pub answer: Result<(), Refusal>,
     pub reader: TokenReader<'a>,
 }
 
 #[derive(Clone, Copy)]
 pub struct Read<'a> {
-    pub answer: Decoded,
+    pub answer: Result<Token, Refusal>,
     pub reader: TokenReader<'a>,
 }

@@ -3,23 +3,23 @@ ghost use Rattle.std.specs.Prelude.{◌≡◌};
 ghost use Rattle.reader.specs.Reading.{opening_of, stands_at, ReadsAt};
 ghost use Rattle.reader.specs.computed.Steps.{token_bytes, Steps};
 
-use crate::answers::Opening;
-use bytecode::answers::Decoded;
+use bytecode::answers::Refusal;
+use layout::record::Token;
 
 // An answer, and the place that the reader has after it.
 #[derive(Clone, Copy)]
 pub(crate) struct Step {
-    pub answer: Decoded,
+    pub answer: Result<Token, Refusal>,
     pub place: usize,
 }
 
-pub(crate) fn opening(program: &[u8]) -> Opening
+pub(crate) fn opening(program: &[u8]) -> Result<(), Refusal>
     ensures { result ≡ opening_of program.now }
 {
     if program.len() < 7 {
-        return Opening::Refused(bytecode::refusal(2, 0, 0));
+        return Err(bytecode::refusal(2, 0, 0));
     }
-    Opening::Ready
+    Ok(())
 }
 
 // The bytes of a token, or none where the program has no such token.
@@ -40,7 +40,7 @@ pub fn token_bytes(program: &[u8], token: usize) -> &[u8]
 }
 
 // What a reader that has read `token` tokens answers. Where there is no such token, decode answers 24 of no bytes.
-pub fn read_at(program: &[u8], token: usize) -> Decoded
+pub fn read_at(program: &[u8], token: usize) -> Result<Token, Refusal>
     ensures { ReadsAt program.now token result }
 {
     stands_at(token, bytecode::decode(token_bytes(program, token)))
@@ -51,23 +51,23 @@ pub(crate) fn step_at(program: &[u8], place: usize) -> Step
     ensures { Steps program.now place result }
 {
     match read_at(program, place) {
-        Decoded::Token(t) => Step {
-            answer: Decoded::Token(t),
+        Ok(t) => Step {
+            answer: Ok(t),
             place: place + 1,
         },
-        Decoded::Refused(r) => Step {
-            answer: Decoded::Refused(r),
+        Err(r) => Step {
+            answer: Err(r),
             place,
         },
     }
 }
 
 // A refusal names the token that the reader stands at.
-fn stands_at(token: usize, answer: Decoded) -> Decoded
+fn stands_at(token: usize, answer: Result<Token, Refusal>) -> Result<Token, Refusal>
     ensures { result ≡ stands_at token answer }
 {
     match answer {
-        Decoded::Token(t) => Decoded::Token(t),
-        Decoded::Refused(r) => Decoded::Refused(bytecode::refusal(r.number, token, r.part)),
+        Ok(t) => Ok(t),
+        Err(r) => Err(bytecode::refusal(r.number, token, r.part)),
     }
 }

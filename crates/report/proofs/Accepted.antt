@@ -1,5 +1,6 @@
 -- No line is refused on an accepted program: each of its tokens decodes to a record that has a line, at a depth of at most 16.
 -- Assumes nothing.
+use Rattle.std.specs.Prelude.{None, Ok, Option, Some}
 use Prim.Native.Nat.{ℕ, zero, suc, ◌+◌, ◌≤◌, ◌<◌}
 use mathlib.Core.Bool.{Bool, true, false, not, ◌&&◌, ◌||◌, true≢false}
 use mathlib.Core.List.{List, [], ◌∷◌, ◌++◌}
@@ -19,8 +20,7 @@ use Rattle.layout.specs.declared.opcodes.Flow.{Flow}
 use Rattle.layout.specs.declared.opcodes.Flow.TheVariants.{Plain, Opener, Els, Eif}
 use Rattle.layout.specs.declared.opcodes.OperandShape.{OperandShape}
 use Rattle.layout.specs.declared.opcodes.OperandShape.TheVariants.{Unused as NoField, Source as SourceField, Sampler as SamplerField}
-use Rattle.layout.specs.declared.record.Destination.{Destination}
-use Rattle.layout.specs.declared.record.Destination.TheVariants.{Unused as NoDestination, Masked}
+use Rattle.layout.specs.declared.record.MaskedRegister.{MaskedRegister}
 use Rattle.layout.specs.declared.record.Operand.{Operand}
 use Rattle.layout.specs.declared.record.Operand.TheVariants.{Unused as NoOperand, Direct, Indexed, Sampler as Sampled}
 use Rattle.layout.specs.declared.record.Sampler.{Sampler}
@@ -37,7 +37,6 @@ use Rattle.faults.specs.Rules.{destination_wrong, sampler_wrong, selectors_diffe
 use Rattle.faults.specs.Order.{Rule, source_rules, token_rules, tokens_from}
 use Rattle.verifier.specs.Verdict.{program, verdict}
 use Rattle.verifier.specs.declared.answers.Program.{Program}
-use Rattle.verifier.specs.declared.answers.Checked.TheVariants.{Accepted}
 use Rattle.verifier.proofs.AcceptedTokens.{is_program, header_whole, stage_known, rules_kept, well_placed, whole_tokens}
 use Rattle.faults.proofs.FaultLaws.{AllKept}
 use Rattle.report.specs.Depth.{shown_depth, opened_after}
@@ -90,9 +89,9 @@ writable_named kind stage e =
     ]
 
 module _ (count : ℕ → ℕ) (stage : ℕ) where
-  destination_named : (d : Destination) → destination_wrong count stage d ≡ false → destination_has_names d ≡ true
-  destination_named NoDestination e = refl
-  destination_named (Masked r) e = writable_named r.kind stage (not-false _ (none_of _ _ e).0)
+  destination_named : (d : Option MaskedRegister) → destination_wrong count stage d ≡ false → destination_has_names d ≡ true
+  destination_named None e = refl
+  destination_named (Some r) e = writable_named r.kind stage (not-false _ (none_of _ _ e).0)
 
   sampler_named : (s : Sampler) → sampler_wrong count s ≡ false → not (settings_wrong s) ≡ true
   sampler_named s e = ap not (none_of (leb (count 5) s.number) (settings_wrong s) e).1
@@ -163,7 +162,7 @@ pub record Listing (bytes : List ℕ) (p : Program) : Type 0 where
   pub is : p ≡ program (stage_of bytes) (token_count bytes)
   pub lines : Listable (stage_of bytes) bytes 0 (token_count bytes) 0
 
-module _ (edition : ℕ) (bytes : List ℕ) (p : Program) (e : verdict edition bytes ≡ Accepted p) where
+module _ (edition : ℕ) (bytes : List ℕ) (p : Program) (e : verdict edition bytes ≡ Ok p) where
   abbrev count : ℕ → ℕ
   count k = count_of k edition (stage_of bytes)
 

@@ -1,5 +1,6 @@
 -- Room for a text, and the place after it.
 -- Assumes nothing.
+use Rattle.std.specs.Prelude.{Ok}
 use Prim.Native.Nat.{ℕ, ◌+◌, ◌≤◌}
 use mathlib.Core.Bool.{Bool, true, false}
 use mathlib.Core.List.{List, ◌++◌}
@@ -11,7 +12,6 @@ use lib.Seq.{length-take-le}
 use borrow.Author.Tests.{leb-true, leb-false}
 use Rattle.listing.specs.Printing.{Prints}
 use Rattle.listing.specs.computed.Writers.{Appends}
-use Rattle.listing.specs.declared.answers.Printed.TheVariants.{Length}
 use Rattle.listing.proofs.PrintLaws.{printed}
 use Rattle.listing.proofs.Writing.{◌then◌, within}
 use Rattle.report.specs.computed.Writers.{HasRoom, for_any, for_this, Puts, Measured, Fits}
@@ -69,7 +69,7 @@ put_length e = record { is = omega (arith, e.ends); short = omega (arith, e.appe
 
 -- a whole text in a buffer that has room for it
 pub put_printed : {text before after : List ℕ} {most n : ℕ} → Puts text most 0 before after n → HasRoom text most 0 (length before)
-    → length after ≡ length before → Prints text before after (Length n) × (length text ≤ most)
+    → length after ≡ length before → Prints text before after (Ok n) × (length text ≤ most)
 put_printed {text} {n = n} e h k =
     let a = e.appends in
     let itself : Appends text n 0 _ _ n = record { text = a.text; onward = a.onward; room = omega arith; rest = a.rest } in

@@ -1,5 +1,6 @@
 -- One turn of a loop over the tokens, which writes or measures a line each time.
 -- Assumes nothing.
+use Rattle.std.specs.Prelude.{Ok}
 use Prim.Native.Nat.{ℕ, suc, ◌+◌, ◌-◌, ◌*◌, ◌≤◌, ◌<◌}
 use mathlib.Core.Bool.{true, ◌&&◌}
 use mathlib.Core.List.{List, ◌++◌, append-nil, append_assoc}
@@ -13,7 +14,6 @@ use Rattle.bytecode.specs.Encode.{is_encodable}
 use Rattle.layout.specs.Opcodes.{flow_of}
 use Rattle.layout.specs.declared.opcodes.Flow.{Flow}
 use Rattle.layout.specs.declared.opcodes.Flow.TheVariants.{Plain, Opener, Els, Eif}
-use Rattle.bytecode.specs.declared.answers.Decoded.TheVariants.{Token as Accepted}
 use Rattle.layout.specs.declared.record.Token.{Token}
 use Rattle.laws.proofs.Every.{left, right}
 use Rattle.listing.specs.Line.{line_of, is_nameable, destination_has_names, operand_has_names}
@@ -58,7 +58,7 @@ module _ {stage : ℕ} {bytes : List ℕ} {at place n opened : ℕ} (w : Walked 
   first : Listable stage bytes n (suc (token_count bytes - (n + 1))) opened
   first = subst (λ k. Listable stage bytes n k opened) left_is w.listable
 
-  pub decodes : decode_of (token_at bytes n) ≡ Accepted record_at_lem
+  pub decodes : decode_of (token_at bytes n) ≡ Ok record_at_lem
   decodes = first.0
 
   -- the record and the depths as the code has them

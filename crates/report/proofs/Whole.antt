@@ -1,5 +1,6 @@
 -- What opens the text, and what report's answer is from the text.
 -- Assumes nothing.
+use Rattle.std.specs.Prelude.{Err, Ok, Result}
 use Prim.Native.Nat.{ℕ, ◌-◌, ◌≤◌, ◌<◌}
 use mathlib.Core.Bool.{true, false}
 use mathlib.Core.List.{List, [], ◌++◌, append-nil}
@@ -13,13 +14,11 @@ use Rattle.bytecode.specs.declared.answers.Refusal.{Refusal}
 use Rattle.laws.proofs.Every.{left, right}
 use Rattle.listing.specs.First.{heading_line, first_line}
 use Rattle.listing.specs.Printing.{Prints}
-use Rattle.listing.specs.declared.answers.Printed.{Printed}
 use Rattle.listing.specs.declared.first.FirstLine.{FirstLine}
 use Rattle.listing.specs.declared.first.FirstLine.TheVariants.{Accepted as AcceptedLine, Refused as RefusedLine, NoEdition, InputTooLong}
 use Rattle.layout.specs.Programs.{token_count}
 use Rattle.verifier.specs.Verdict.{verdict}
 use Rattle.verifier.specs.declared.answers.Program.{Program}
-use Rattle.verifier.specs.declared.answers.Checked.TheVariants.{Accepted, Refused}
 use Rattle.report.specs.Lines.{lines_from, Listable}
 use Rattle.report.specs.Text.{answer_text, is_edition, edition_of, text_of}
 use Rattle.report.specs.Report.{Reports}
@@ -34,12 +33,12 @@ alone f e none lines = record { whole = e ∙ sym (append-nil (first_line f)) �
 -- ---- what the check answers
 
 -- no line is refused on an accepted program
-program_listable : (edition : ℕ) (bytes : List ℕ) (p : Program) → verdict edition bytes ≡ Accepted p → Listable p.stage bytes 0 p.tokens 0
+program_listable : (edition : ℕ) (bytes : List ℕ) (p : Program) → verdict edition bytes ≡ Ok p → Listable p.stage bytes 0 p.tokens 0
 program_listable edition bytes p e =
     subst (λ q. Listable q.stage bytes 0 q.tokens 0) (sym (lists edition bytes p e).is) (lists edition bytes p e).lines
 
 module _ (edition : ℕ) (bytes : List ℕ) (few : length bytes ≤ 49159) where
-  module _ (p : Program) (e : verdict edition bytes ≡ Accepted p) where
+  module _ (p : Program) (e : verdict edition bytes ≡ Ok p) where
     tokens_are : p.tokens ≡ token_count bytes
     tokens_are = ap (λ x. x.tokens) (lists edition bytes p e).is
 
@@ -57,7 +56,7 @@ module _ (edition : ℕ) (bytes : List ℕ) (few : length bytes ≤ 49159) where
           };
         }
 
-  pub refused_opens : (f : Refusal) → verdict edition bytes ≡ Refused f → BeginsText (answer_text edition bytes (verdict edition bytes)) bytes (RefusedLine f)
+  pub refused_opens : (f : Refusal) → verdict edition bytes ≡ Err f → BeginsText (answer_text edition bytes (verdict edition bytes)) bytes (RefusedLine f)
   refused_opens f e = alone (RefusedLine f) (ap (answer_text edition bytes) e) refl tt
 
 -- ---- the tests in their order
@@ -90,7 +89,7 @@ module _ (input : List ℕ) where
 
 -- ---- report
 
-pub reported : {input before after : List ℕ} {r : Printed} → Prints (text_of input) before after r × (length (text_of input) ≤ 262178)
+pub reported : {input before after : List ℕ} {r : Result ℕ Refusal} → Prints (text_of input) before after r × (length (text_of input) ≤ 262178)
     → Reports input before after r
 reported {input} (p, s) =
     record { prints = p; short = s; listable = program_listable (edition_of (get_or input 0 0)) (drop 1 input) }

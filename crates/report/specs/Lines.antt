@@ -1,7 +1,6 @@
 -- Document 01, "Listing": the token lines that `agallist` prints.
-use Rattle.std.specs.Prelude.{ℕ, zero, suc, ◌+◌, true, List, [], ◌++◌, ◌≡◌}
+use Rattle.std.specs.Prelude.{ℕ, zero, suc, ◌+◌, true, List, [], ◌++◌, ◌≡◌, Ok}
 use Rattle.bytecode.specs.Decode.{decode_of}
-use Rattle.bytecode.specs.declared.answers.Decoded.TheVariants.{Token as Accepted}
 use Rattle.layout.specs.Opcodes.{flow_of}
 use Rattle.layout.specs.declared.opcodes.Flow.{Flow}
 use Rattle.layout.specs.declared.record.Token.{Token}
@@ -26,6 +25,6 @@ lines_from stage bytes n (suc left) opened =
 abbrev pub Listable : ℕ → List ℕ → ℕ → ℕ → ℕ → Type 0
 Listable stage bytes n zero opened = Unit {0}
 Listable stage bytes n (suc left) opened =
-    (decode_of (token_at bytes n) ≡ Accepted (record_of (token_at bytes n)))
+    (decode_of (token_at bytes n) ≡ Ok (record_of (token_at bytes n)))
     × (is_nameable (record_of (token_at bytes n)) stage (shown_depth (flow_in (record_of (token_at bytes n))) opened) ≡ true)
     × Listable stage bytes (n + 1) left (opened_after (flow_in (record_of (token_at bytes n))) opened)

@@ -1,19 +1,19 @@
 -- Document 01, "Listing": the whole text that `agallist` prints, from the bytes that it reads.
-use Rattle.std.specs.Prelude.{ℕ, ◌-◌, Bool, cond, ◌&&◌, List, ◌++◌, ltb, leb, eqb, length, get_or, drop}
+use Rattle.std.specs.Prelude.{ℕ, ◌-◌, Bool, cond, ◌&&◌, List, ◌++◌, ltb, leb, eqb, length, get_or, drop, Err, Ok, Result}
 use Prim.Native.Char.{code}
 use Rattle.bytecode.specs.Decode.{refusal}
 use Rattle.listing.specs.First.{heading_line, refusal_line, first_line}
 use Rattle.listing.specs.declared.first.FirstLine.TheVariants.{NoEdition, InputTooLong}
 use Rattle.verifier.specs.Verdict.{verdict}
-use Rattle.verifier.specs.declared.answers.Checked.{Checked}
-use Rattle.verifier.specs.declared.answers.Checked.TheVariants.{Accepted, Refused}
+use Rattle.verifier.specs.declared.answers.Program.{Program}
+use Rattle.bytecode.specs.declared.answers.Refusal.{Refusal}
 use Rattle.report.specs.Lines.{lines_from}
 
 -- "It prints a first line .. and the token lines; or one line: .. a refusal"
-abbrev pub answer_text : ℕ → List ℕ → Checked → List ℕ
-answer_text edition bytes (Accepted p) =
+abbrev pub answer_text : ℕ → List ℕ → Result Program Refusal → List ℕ
+answer_text edition bytes (Ok p) =
     heading_line (record { edition = edition; stage = p.stage; tokens = p.tokens }) ++ lines_from p.stage bytes 0 p.tokens 0
-answer_text edition bytes (Refused r) = refusal_line r
+answer_text edition bytes (Err r) = refusal_line r
 
 -- "the digits 1, 2, 3"
 abbrev pub is_edition : ℕ → Bool

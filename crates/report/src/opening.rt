@@ -5,7 +5,6 @@ ghost use Rattle.report.specs.Text.{answer_text, is_edition as is_edition_digit,
 ghost use Rattle.report.specs.computed.Writers.{BeginsText};
 
 use listing::first::{FirstLine, Heading};
-use verifier::answers::Checked;
 
 pub(crate) fn first_of(input: &[u8]) -> FirstLine
     ensures { BeginsText (text_of input.now) (drop 1 input.now) result }
@@ -43,7 +42,7 @@ fn answer_of(edition: u16, bytes: &[u8]) -> FirstLine
     ensures { BeginsText (answer_text edition bytes.now (verdict edition bytes.now)) bytes.now result }
 {
     match verifier::check(edition as u32, bytes) {
-        Checked::Accepted(program) => {
+        Ok(program) => {
             let heading = Heading {
                 edition,
                 stage: program.stage,
@@ -51,6 +50,6 @@ fn answer_of(edition: u16, bytes: &[u8]) -> FirstLine
             };
             FirstLine::Accepted(heading)
         }
-        Checked::Refused(r) => FirstLine::Refused(r),
+        Err(r) => FirstLine::Refused(r),
     }
 }

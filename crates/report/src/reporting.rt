@@ -7,18 +7,18 @@ ghost use Rattle.report.specs.Report.{Reports};
 ghost use Rattle.report.specs.computed.Writers.{BeginsText, HasRoom, Measured, Fits, Puts};
 
 use crate::{opening, tokens};
-use listing::answers::Printed;
+use bytecode::answers::Refusal;
 use listing::first::FirstLine;
 
 // From an edition digit and a program's bytes. A buffer that is too short for the whole text keeps every byte.
-pub fn report(input: &[u8], out: &mut [u8]) -> Printed
+pub fn report(input: &[u8], out: &mut [u8]) -> Result<usize, Refusal>
     ensures { Reports input.now out.old out.new result }
 {
     let first = opening::first_of(input);
     if !fits(out.len(), first, input) {
-        return Printed::Refused(bytecode::refusal(23, 0, 0));
+        return Err(bytecode::refusal(23, 0, 0));
     }
-    Printed::Length(put_text(out, first, input))
+    Ok(put_text(out, first, input))
 }
 
 // Whether so many bytes are room for the text. Its length is known once it is written, so it is measured first, but not where there is room
@@ -69,7 +69,7 @@ fn put_first(out: &mut [u8], first: FirstLine) -> usize
     ensures { Puts (first_line first) (first_most first) 0 out.old out.new result }
 {
     match listing::first_line(first, out) {
-        Printed::Length(n) => n,
-        Printed::Refused(_) => 0,
+        Ok(n) => n,
+        Err(_) => 0,
     }
 }

@@ -1,7 +1,6 @@
 // The token lines of a listing.
-ghost use Rattle.std.specs.Prelude.{true, ◌≡◌, ◌-◌, ◌*◌, ◌≤◌, length};
+ghost use Rattle.std.specs.Prelude.{true, ◌≡◌, ◌-◌, ◌*◌, ◌≤◌, length, Ok};
 ghost use Rattle.bytecode.specs.Decode.{decode_of};
-ghost use Rattle.bytecode.specs.declared.answers.Decoded.TheVariants.{Token as Accepted};
 ghost use Rattle.layout.specs.Opcodes.{flow_of};
 ghost use Rattle.listing.specs.Line.{line_of, is_nameable};
 ghost use Rattle.layout.specs.Programs.{token_count, token_at};
@@ -9,11 +8,9 @@ ghost use Rattle.bytecode.specs.Fields.{record_of};
 ghost use Rattle.report.specs.Depth.{shown_depth, opened_after};
 ghost use Rattle.report.specs.computed.Writers.{Listed, HasRoom, Puts, Measured, all_lines};
 
-use bytecode::answers::Decoded;
 use layout::opcodes;
 use layout::opcodes::Flow;
-use layout::record::{Destination, Operand, Token};
-use listing::answers::Printed;
+use layout::record::{Operand, Token};
 
 // A line for each token, none of which has more than 128 bytes.
 pub(crate) fn put_tokens(out: &mut [u8], at: usize, stage: u8, bytes: &[u8]) -> usize
@@ -56,12 +53,12 @@ pub(crate) fn tokens_length(stage: u8, bytes: &[u8]) -> usize
 
 // The record of a token that decode does not refuse.
 fn token_at(bytes: &[u8], token: usize) -> Token
-    requires { decode_of (token_at bytes.now token) ≡ Accepted (record_of (token_at bytes.now token)) }
+    requires { decode_of (token_at bytes.now token) ≡ Ok (record_of (token_at bytes.now token)) }
     ensures { result ≡ record_of (token_at bytes.now token) }
 {
     match reader::read_at(bytes, token) {
-        Decoded::Token(t) => t,
-        Decoded::Refused(_) => blank(),
+        Ok(t) => t,
+        Err(_) => blank(),
     }
 }
 
@@ -69,7 +66,7 @@ fn token_at(bytes: &[u8], token: usize) -> Token
 fn blank() -> Token {
     Token {
         opcode: 0,
-        destination: Destination::Unused,
+        destination: None,
         source1: Operand::Unused,
         source2: Operand::Unused,
     }
@@ -82,8 +79,8 @@ fn put_line(out: &mut [u8], at: usize, token: Token, stage: u8, depth: u8) -> us
     ensures { Puts (line_of token stage depth) 128 at out.old out.new result }
 {
     match listing::line(token, stage, depth, &mut out[at..]) {
-        Printed::Length(n) => at + n,
-        Printed::Refused(_) => at,
+        Ok(n) => at + n,
+        Err(_) => at,
     }
 }
 

@@ -1,5 +1,6 @@
 -- The tokens of an accepted program have none of faults 9 to 19, so decode takes each of them.
 -- Assumes nothing.
+use Rattle.std.specs.Prelude.{Ok}
 use Prim.Native.Nat.{ℕ, zero, suc, ◌+◌, ◌-◌, ◌*◌, ◌%◌, ◌≤◌, ◌<◌}
 use mathlib.Core.Bool.{false}
 use mathlib.Core.List.{List}
@@ -9,7 +10,6 @@ use lib.Dec.{eqb}
 use lib.ListN.{length, length-take, length-drop}
 use borrow.Author.Tests.{eqb-true, ltb-false, not-false}
 use Rattle.bytecode.specs.Decode.{token_fault, decode_of}
-use Rattle.bytecode.specs.declared.answers.Decoded.TheVariants.{Token as Decodes}
 use Rattle.bytecode.proofs.DecodeLaws.{no_faults}
 use Rattle.registers.specs.Counts.{count_of}
 use Rattle.paths.specs.Nesting.{misplaced_at}
@@ -22,14 +22,13 @@ use Rattle.verifier.specs.Numbers.{checked_numbers}
 use Rattle.verifier.specs.Exact.{HeaderRight}
 use Rattle.verifier.specs.Accepted.{WholeTokens, AcceptedDecodes}
 use Rattle.verifier.specs.declared.answers.Program.{Program}
-use Rattle.verifier.specs.declared.answers.Checked.TheVariants.{Accepted}
 use Rattle.verifier.proofs.ExactCheck.{exact_check}
 use Rattle.faults.proofs.FaultLaws.{AllKept, none_broken}
 use Rattle.verifier.proofs.HeaderLaw.{has_header}
 
 -- a token that keeps the rules 9 to 19
 module _ (count : ℕ → ℕ) (edition stage : ℕ) (s : List ℕ) (kept : AllKept (token_rules count edition stage s)) where
-  token_decodes : length s ≡ 24 → decode_of s ≡ Decodes (record_of s)
+  token_decodes : length s ≡ 24 → decode_of s ≡ Ok (record_of s)
   unfolding token_fault
   token_decodes h = sym (no_faults s h (rw (kept.0, kept.1.1.1.0, kept.1.1.1.1.0))).answer
 
@@ -50,7 +49,7 @@ module _ (edition : ℕ) (bytes : List ℕ) where
       ap (λ m. first_fault (token_rules count edition (stage_of bytes) (token_at bytes m))) e'
   fault_at_lem at (suc left) (suc i) n e h = fault_at_lem (at + 1) left i n (omega (arith, e)) (omega (arith, h))
 
-  module _ (p : Program) (e : verdict edition bytes ≡ Accepted p) where
+  module _ (p : Program) (e : verdict edition bytes ≡ Ok p) where
     told : HeaderRight edition bytes × Faultless (tokens_of edition bytes) × (p.stage ≡ stage_of bytes) × (p.tokens ≡ token_count bytes)
     told = ((exact_check edition bytes).accepts p.stage p.tokens).0 (ap checked_numbers e)
 

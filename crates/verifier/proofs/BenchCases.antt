@@ -1,5 +1,6 @@
 -- The cases of the paper's bench checks that are to be proved, computed.
 -- Assumes nothing.
+use Rattle.std.specs.Prelude.{Result}
 use mathlib.Core.List.{List, map, Memᴰ}
 use mathlib.Core.Path.{◌≡◌, refl, sym, ap, ◌∙◌}
 use Rattle.layout.specs.Opcodes.{flow_of, row_of, shape_of_row, row_count2}
@@ -10,11 +11,12 @@ use Rattle.registers.specs.Limits.{limit_of}
 use Rattle.layout.specs.Selections.{selectors1, selectors2, components2}
 use Rattle.paths.specs.computed.Check.{check_from}
 use Rattle.verifier.specs.Verdict.{verdict}
-use Rattle.verifier.specs.declared.answers.Checked.{Checked}
+use Rattle.verifier.specs.declared.answers.Program.{Program}
+use Rattle.bytecode.specs.declared.answers.Refusal.{Refusal}
 use Rattle.verifier.specs.BenchCases.{Case, bench_cases, BenchChecks}
 
 -- the check's answer to a case
-abbrev answered : Case → Checked
+abbrev answered : Case → Result Program Refusal
 answered k = verdict k.edition k.bytes
 
 all : map answered bench_cases ≡ map (λ k. k.answer) bench_cases

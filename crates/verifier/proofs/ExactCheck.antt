@@ -1,5 +1,6 @@
 -- The verdict meets demands 2 and 3: its answer is the first fault in document 01's order, or that there is none.
 -- Assumes nothing.
+use Rattle.std.specs.Prelude.{Err, Result}
 use Prim.Native.Nat.{ℕ, zero, suc, ◌+◌}
 use mathlib.Core.List.{List}
 use mathlib.Core.Logic.{◌↔◌, ◌⊎◌, inl, inr}
@@ -21,8 +22,7 @@ use Rattle.faults.specs.Order.{first_fault, header_rules, tokens_from, tokens_of
 use Rattle.verifier.specs.Verdict.{answer_of, after_header, verdict}
 use Rattle.verifier.specs.Numbers.{checked_numbers}
 use Rattle.verifier.specs.Exact.{HeaderRight, Exact, Demand3, Checks}
-use Rattle.verifier.specs.declared.answers.Checked.{Checked}
-use Rattle.verifier.specs.declared.answers.Checked.TheVariants.{Refused}
+use Rattle.verifier.specs.declared.answers.Program.{Program}
 use Rattle.verifier.proofs.HeaderLaw.{header_numbered}
 use Rattle.faults.proofs.OwnFault.{token_numbered}
 
@@ -81,7 +81,7 @@ module _ (bytes : List ℕ) where
   tokens_off o a number n part x y = rw (x, y)
 
   refusal_numbered : (o : Option TokenFault) (a : Answer) → HeaderNumbered o → LaterNumbered a → (f : Refusal)
-      → after_header o (answer_of bytes a) ≡ Refused f → IsFault f.number
+      → after_header o (answer_of bytes a) ≡ Err f → IsFault f.number
   refusal_numbered none accepted h l f e = let z : ◌≡◌ {A = ℕ} 0 1 = cc in absurd (omega arith)
   refusal_numbered none (refused number n part) h l f e =
       let q : refusal number n part ≡ f = cc in
@@ -172,7 +172,7 @@ module _ (edition : ℕ) (bytes : List ℕ) where
       }
 
   -- the promise of check, of what equals the verdict
-  pub checks : (r : Checked) → r ≡ verdict edition bytes → Checks edition bytes r
+  pub checks : (r : Result Program Refusal) → r ≡ verdict edition bytes → Checks edition bytes r
   checks r e = record {
     answer = e;
     exact = subst⁻¹ (λ r. Exact edition bytes r) e exact_check;

@@ -1,5 +1,6 @@
 -- The faults of the header: their numbers, and what follows where there is one and where there is none.
 -- Assumes nothing.
+use Rattle.std.specs.Prelude.{Err, Result}
 use Prim.Native.Nat.{ℕ, ◌≤◌, ◌<◌}
 use mathlib.Core.Bool.{Bool, true, false, cond}
 use mathlib.Core.List.{List, [], ◌∷◌}
@@ -20,8 +21,8 @@ use Rattle.faults.specs.computed.Faults.{refusal_at}
 use Rattle.faults.specs.computed.Header.{header_fault}
 use Rattle.faults.proofs.FaultLaws.{none_broken}
 use Rattle.verifier.specs.Verdict.{answer_of, after_header, verdict}
-use Rattle.verifier.specs.declared.answers.Checked.{Checked}
-use Rattle.verifier.specs.declared.answers.Checked.TheVariants.{Refused}
+use Rattle.verifier.specs.declared.answers.Program.{Program}
+use Rattle.bytecode.specs.declared.answers.Refusal.{Refusal}
 
 -- ---- the numbers are 1 to 8
 
@@ -54,11 +55,11 @@ module _ (edition : ℕ) (bytes : List ℕ) where
 
   -- ---- where there is one, it is the answer
 
-  pub header_refuses : ((header_fault edition bytes).number ≡ 0 → ⊥) → Refused (header_fault edition bytes) ≡ verdict edition bytes
+  pub header_refuses : ((header_fault edition bytes).number ≡ 0 → ⊥) → Err (header_fault edition bytes) ≡ verdict edition bytes
   unfolding header_fault verdict
   header_refuses z = go first _ z
     where
-      go : (o : Option TokenFault) (later : Checked) → ((refusal_at 0 o).number ≡ 0 → ⊥) → Refused (refusal_at 0 o) ≡ after_header o later
+      go : (o : Option TokenFault) (later : Result Program Refusal) → ((refusal_at 0 o).number ≡ 0 → ⊥) → Err (refusal_at 0 o) ≡ after_header o later
       go none later z = absurd (z refl)
       go (some f) later z = refl
 

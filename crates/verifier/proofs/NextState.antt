@@ -1,5 +1,6 @@
 -- The next state of the code stands for the next state of the check over paths.
 -- Assumes nothing.
+use Rattle.std.specs.Prelude.{None, Option, Some}
 use Prim.Native.Nat.{ℕ, zero, suc, ◌+◌, ◌%◌, ◌<◌}
 use mathlib.Core.Bool.{false, ◌||◌, or-false, true≢false}
 use mathlib.Core.List.{◌∷◌}
@@ -10,8 +11,7 @@ use lib.Seq.{get_or-set_same, get_or-set_other}
 use borrow.Author.Tests.{leb-false}
 use Rattle.layout.specs.declared.opcodes.Flow as code
 use Rattle.layout.specs.declared.opcodes.Flow.TheVariants.{Plain, Opener, Els, Eif}
-use Rattle.layout.specs.declared.record.Destination.{Destination}
-use Rattle.layout.specs.declared.record.Destination.TheVariants.{Unused as NoDestination, Masked}
+use Rattle.layout.specs.declared.record.MaskedRegister.{MaskedRegister}
 use Rattle.paths.specs.Paths.{Flow}
 use Rattle.paths.specs.Nesting.{branches_after}
 use Rattle.paths.specs.computed.Sets.{ComponentSet, adds}
@@ -30,14 +30,14 @@ use Rattle.verifier.proofs.Abstract.{branch_of, kept_of, below, open_in, below_a
 -- ---- the write
 
 -- a temporary register that is written is one of those that a set keeps
-abbrev pub Kept : Destination → Type 0
-Kept NoDestination = Unit {0}
-Kept (Masked r) = r.kind ≡ 2 → r.number < 32
+abbrev pub Kept : Option MaskedRegister → Type 0
+Kept None = Unit {0}
+Kept (Some r) = r.kind ≡ 2 → r.number < 32
 
-pub wrote_is : (st : State) (d : Destination) → Kept d
+pub wrote_is : (st : State) (d : Option MaskedRegister) → Kept d
     → (w : Written) × (wrote_state st d ≡ with_current st w) × (component_set w ≡ adds (component_set st.current) (temporaries (writes_into d)))
-wrote_is st NoDestination h = (st.current, refl, fun_ext (λ c. sym (or-false (component_set st.current c))))
-wrote_is st (Masked r) h = (written_by st.current r, refl, fun_ext (in_written st.current r h))
+wrote_is st None h = (st.current, refl, fun_ext (λ c. sym (or-false (component_set st.current c))))
+wrote_is st (Some r) h = (written_by st.current r, refl, fun_ext (in_written st.current r h))
 
 -- ---- the state by its parts
 

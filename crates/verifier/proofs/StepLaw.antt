@@ -15,8 +15,7 @@ use Rattle.bytecode.specs.declared.answers.Refusal.{Refusal}
 use Rattle.layout.specs.Opcodes.{flow_of}
 use Rattle.layout.specs.declared.opcodes.Flow.{Flow}
 use Rattle.layout.specs.declared.opcodes.Flow.TheVariants.{Plain, Opener, Els, Eif}
-use Rattle.layout.specs.declared.record.Destination.{Destination}
-use Rattle.layout.specs.declared.record.Destination.TheVariants.{Unused as NoDestination, Masked}
+use Rattle.layout.specs.declared.record.MaskedRegister.{MaskedRegister}
 use Rattle.layout.specs.declared.record.Token.{Token}
 use Rattle.registers.specs.Counts.{count_of}
 use Rattle.registers.specs.Uses.{is_writable}
@@ -61,9 +60,9 @@ temporary_count edition stage =
       | no e ↦ rw (outside_edition 2 edition stage (omega (arith, e))) (omega arith)
     ]
 
-pub kept : (edition stage : ℕ) (d : Destination) → destination_wrong (λ k. count_of k edition stage) stage d ≡ false → Kept d
-kept edition stage NoDestination e = tt
-kept edition stage (Masked r) e =
+pub kept : (edition stage : ℕ) (d : Option MaskedRegister) → destination_wrong (λ k. count_of k edition stage) stage d ≡ false → Kept d
+kept edition stage None e = tt
+kept edition stage (Some r) e =
     λ k.
     let h = leb-false (count_of r.kind edition stage) r.number (neither (not (is_writable r.kind stage)) (leb (count_of r.kind edition stage) r.number) e).1 in
     let q = ap (λ x. count_of x edition stage) k in
@@ -77,9 +76,9 @@ met_fault st Opener = refl
 met_fault st Els = refl
 met_fault st Eif = refl
 
-wrote_fault : (st : State) (d : Destination) → (wrote_state st d).fault ≡ st.fault
-wrote_fault st NoDestination = refl
-wrote_fault st (Masked r) = refl
+wrote_fault : (st : State) (d : Option MaskedRegister) → (wrote_state st d).fault ≡ st.fault
+wrote_fault st None = refl
+wrote_fault st (Some r) = refl
 
 parted_fault : (st : State) (f : Flow) (n : ℕ) → (parted_state st f n).fault ≡ st.fault
 parted_fault st Plain n = refl

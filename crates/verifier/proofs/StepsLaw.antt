@@ -14,7 +14,7 @@ use Rattle.laws.proofs.Every.{left as both_left, right as both_right}
 use Rattle.paths.specs.computed.Sets.{nothing}
 use Rattle.components.specs.computed.Written.{component_set, half_of}
 use Rattle.paths.specs.computed.Check.{start, check_from, verdict_of}
-use Rattle.std.specs.Prelude.{Option, Some, None, is_some}
+use Rattle.std.specs.Prelude.{Option, Some, None, Ok, Err, is_some}
 use Rattle.bytecode.specs.Decode.{refusal, token_fault}
 use Rattle.bytecode.specs.declared.answers.Refusal.{Refusal}
 use Rattle.bytecode.specs.computed.CleanFields.{is_clean, fields_in}
@@ -29,7 +29,6 @@ use Rattle.verifier.specs.computed.State.{none_written, start_state, with_fault}
 use Rattle.verifier.specs.computed.Step.{unless_refused, fault_of_fields, step_of}
 use Rattle.verifier.specs.computed.Steps.{steps_over, unless_met, finish_of, judged_by, opens_unlisted}
 use Rattle.verifier.specs.Verdict.{program, answer_of}
-use Rattle.verifier.specs.declared.answers.Checked.TheVariants.{Accepted, Refused}
 use Rattle.verifier.specs.declared.state.State.{State}
 use Rattle.verifier.proofs.Abstract.{abstract_of, Valid, valid_start}
 use Rattle.verifier.proofs.StepLaw.{told_by, tells}
@@ -149,7 +148,7 @@ module _ (edition : ℕ) (bytes : List ℕ) (header : 7 ≤ length bytes) where
     where
       go : (o : Option Refusal) (d : ℕ) → st.depth ≡ d
           → answer_of bytes (told_by o (check_from (abstract_of st) n []))
-          ≡ unless_met o (cond (eqb st.depth 0) (Accepted (program (stage_of bytes) (token_count bytes))) (Refused (refusal 22 st.innermost.opener 0)))
+          ≡ unless_met o (cond (eqb st.depth 0) (Ok (program (stage_of bytes) (token_count bytes))) (Err (refusal 22 st.innermost.opener 0)))
       go None zero e = rw (eq-eqb st.depth 0 e, e)
       go None (suc d) e = rw (ne_eqb st.depth 0 (λ z. omega (arith, e, z)), e)
       go (Some r) d e = refl
@@ -161,7 +160,7 @@ module _ (edition : ℕ) (bytes : List ℕ) (header : 7 ≤ length bytes) where
       ∙ ap (answer_of bytes) (sym (told (token_count bytes) 0 (omega arith) start_state valid_start) ∙ ap (λ a. check_from a 0 (tokens_of edition bytes)) start_is)
 
   -- a first token whose opcode is not listed
-  pub unlisted_refused : opens_unlisted bytes ≡ true → Refused (refusal 9 0 0) ≡ judged_by edition bytes
+  pub unlisted_refused : opens_unlisted bytes ≡ true → Err (refusal 9 0 0) ≡ judged_by edition bytes
   unfolding opens_unlisted fault_of_fields step_of steps_over is_clean token_fault undecoded_fault judged_by finish_of
   unlisted_refused e =
       let long = leb 31 (length bytes) in

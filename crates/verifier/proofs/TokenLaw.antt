@@ -15,7 +15,6 @@ use Rattle.bytecode.specs.Decode.{refusal, outcome, token_fault, decode_of}
 use Rattle.bytecode.specs.computed.CleanFields.{is_clean}
 use Rattle.bytecode.specs.Fields.{fields_of, record_of}
 use Rattle.bytecode.specs.declared.answers.Refusal.{Refusal}
-use Rattle.bytecode.specs.declared.answers.Decoded.TheVariants.{Token as Accepted, Refused}
 use Rattle.layout.specs.Opcodes.{shape_of}
 use Rattle.layout.specs.declared.record.Token.{Token}
 use Rattle.bytecode.proofs.DecodeLaws.{was_refused, no_faults, with_fault_lem, clean_none, clean_by, not_clean}
@@ -79,7 +78,7 @@ module _ (edition stage n : ℕ) (s : List ℕ) (h : length s ≡ 24) (st : Stat
   Steps : State → Type 0
   Steps next = (check_from (abstract_of st) n (path_token_of own (record_of s) ∷ rest) ≡ tells next (suc n) rest) × Valid next
 
-  when_refused : (r : Refusal) → decode_of s ≡ Refused r → Steps (with_fault st (undecoded_fault profile n r (fields_of s).opcode))
+  when_refused : (r : Refusal) → decode_of s ≡ Err r → Steps (with_fault st (undecoded_fault profile n r (fields_of s).opcode))
   unfolding Steps
   when_refused r e = go own refl
     where
@@ -90,7 +89,7 @@ module _ (edition stage n : ℕ) (s : List ℕ) (h : length s ≡ 24) (st : Stat
       go none k = absurd (undecoded_fault_lem profile n r (fields_of s).opcode (was_refused s r h e).1 (sym (ap (λ x. x.number) (sym (ap (refusal_at n) k) ∙ q))))
       go (some f) k = ((at_fault f k _ q).0, valid_fault st v _)
 
-  when_taken : (t : Token) → decode_of s ≡ Accepted t → Steps (after_fault st n (outcome (own_fault profile n t)) t)
+  when_taken : (t : Token) → decode_of s ≡ Ok t → Steps (after_fault st n (outcome (own_fault profile n t)) t)
   unfolding Steps
   when_taken t e = go own refl
     where

@@ -1,26 +1,26 @@
 -- Document 01, "Bench checks": the cases marked (P), as one table. Each answer is worked out from the paper's "Check order".
-use Rattle.std.specs.Prelude.{ℕ, ◌≡◌}
+use Rattle.std.specs.Prelude.{ℕ, ◌≡◌, Err, Ok, Result}
 use mathlib.Core.List.{List, [], ◌∷◌, ◌++◌, Memᴰ}
 use Rattle.bytecode.specs.Decode.{refusal}
 use Rattle.verifier.specs.Verdict.{program, verdict}
-use Rattle.verifier.specs.declared.answers.Checked.{Checked}
-use Rattle.verifier.specs.declared.answers.Checked.TheVariants.{Accepted, Refused}
+use Rattle.verifier.specs.declared.answers.Program.{Program}
+use Rattle.bytecode.specs.declared.answers.Refusal.{Refusal}
 
 pub record Case : Type 0 where
   pub edition : ℕ
   pub bytes : List ℕ
-  pub answer : Checked
+  pub answer : Result Program Refusal
 
-abbrev pub case : ℕ → List ℕ → Checked → Case
+abbrev pub case : ℕ → List ℕ → Result Program Refusal → Case
 case edition bytes answer = record { edition = edition; bytes = bytes; answer = answer }
 
 -- accepted as a vertex program of so many tokens
-abbrev pub vertex : ℕ → Checked
-vertex tokens = Accepted (program 0 tokens)
+abbrev pub vertex : ℕ → Result Program Refusal
+vertex tokens = Ok (program 0 tokens)
 
 -- a fault's number, its token and its part
-abbrev pub refused_by : ℕ → ℕ → ℕ → Checked
-refused_by number token part = Refused (refusal number token part)
+abbrev pub refused_by : ℕ → ℕ → ℕ → Result Program Refusal
+refused_by number token part = Err (refusal number token part)
 
 -- ---- bytes: of a token its opcode, its destination, source 1 and source 2, a line each
 

@@ -6,9 +6,10 @@ ghost use Rattle.verifier.specs.computed.State.{start_state};
 ghost use Rattle.verifier.specs.computed.Glance.{CanJudge};
 ghost use Rattle.verifier.specs.Exact.{Checks};
 
-use crate::answers::{Checked, Program};
+use crate::answers::Program;
 use crate::state::State;
 use crate::{glance, places, state};
+use bytecode::answers::Refusal;
 use components::written;
 use faults::lawful::Usable;
 use faults::profile::Profile;
@@ -16,15 +17,15 @@ use layout::opcodes;
 use layout::opcodes::Flow;
 
 // Judges a program under an edition, in one pass over its tokens.
-pub fn check(edition: u32, bytes: &[u8]) -> Checked
+pub fn check(edition: u32, bytes: &[u8]) -> Result<Program, Refusal>
     ensures { Checks edition bytes.now result }
 {
     let fault = faults::header_fault(edition, bytes);
     if fault.number != 0 {
-        return Checked::Refused(fault);
+        return Err(fault);
     }
     if opens_unlisted(bytes) {
-        return Checked::Refused(bytecode::refusal(9, 0, 0));
+        return Err(bytecode::refusal(9, 0, 0));
     }
     check_tokens(edition, bytes)
 }
@@ -46,7 +47,7 @@ fn opens_unlisted(bytes: &[u8]) -> bool
 
 // Faults 9 to 22 of a program that has a header.
 #[tactic(auto, unfolding(crate::specs::computed::Steps::judged_by))]
-fn check_tokens(edition: u32, bytes: &[u8]) -> Checked
+fn check_tokens(edition: u32, bytes: &[u8]) -> Result<Program, Refusal>
     requires in_bounds { 7 ≤ length bytes.now }
     requires bytes_bound { token_count bytes.now < 65536 }
     ensures { result ≡ judged_by edition bytes.now }
@@ -99,15 +100,15 @@ fn last_state(profile: Profile, usable: Usable, bytes: &[u8], count: usize) -> S
 impl State {
     // The answer after the last token: the fault that was met, or 22 where a branch is still open, at its opener.
     #[tactic(auto, unfolding(crate::specs::computed::Steps::finish_of))]
-    pub(crate) fn finish(self, stage: u8, tokens: usize) -> Checked
+    pub(crate) fn finish(self, stage: u8, tokens: usize) -> Result<Program, Refusal>
         ensures { result ≡ finish_of self stage tokens }
     {
         if let Some(fault) = self.fault {
-            return Checked::Refused(fault);
+            return Err(fault);
         }
         if self.depth == 0 {
-            return Checked::Accepted(Program { stage, tokens });
+            return Ok(Program { stage, tokens });
         }
-        Checked::Refused(bytecode::refusal(22, self.innermost.opener as usize, 0))
+        Err(bytecode::refusal(22, self.innermost.opener as usize, 0))
     }
 }

@@ -9,7 +9,7 @@ use bytecode::answers::Refusal;
 use components::written;
 use components::written::Written;
 use layout::opcodes::Flow;
-use layout::record::{Destination, MaskedRegister};
+use layout::record::MaskedRegister;
 
 // An open branch: the set kept for the path that does not come by here, its opener's token number, and whether its els was met.
 #[derive(Clone, Copy)]
@@ -171,10 +171,10 @@ impl State {
     }
 
     // With the components that a token writes, where its destination is a temporary register.
-    pub(crate) fn wrote(mut self, destination: Destination) -> State
+    pub(crate) fn wrote(mut self, destination: Option<MaskedRegister>) -> State
         ensures { result ≡ wrote_state self destination }
     {
-        if let Destination::Masked(register) = destination {
+        if let Some(register) = destination {
             self.current = written_by(self.current, register);
         }
         self

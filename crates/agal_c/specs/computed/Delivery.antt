@@ -1,12 +1,12 @@
 -- How the code delivers a token: the faults that it tells outright, its answer as one number, and the values that it takes from a source's
 -- field.
-use Rattle.std.specs.Prelude.{ℕ, ◌+◌, ◌*◌, ◌/◌, ◌%◌, cond, List, eqb, ltb, length}
+use Rattle.std.specs.Prelude.{ℕ, ◌+◌, ◌*◌, ◌/◌, ◌%◌, cond, List, eqb, ltb, length, Err, Ok, Result}
 use Rattle.layout.specs.Opcodes.{shape_of}
 use Rattle.layout.specs.Records.{direct_of}
 use Rattle.bytecode.specs.Fields.{fields_of}
 use Rattle.bytecode.specs.Decode.{refusal}
-use Rattle.bytecode.specs.declared.answers.Decoded.{Decoded}
-use Rattle.bytecode.specs.declared.answers.Decoded.TheVariants.{Token as Read, Refused as NotRead}
+use Rattle.layout.specs.declared.record.Token.{Token}
+use Rattle.bytecode.specs.declared.answers.Refusal.{Refusal}
 use Rattle.agal_c.specs.Answers.{answered, refused}
 use Rattle.agal_c.specs.Values.{values}
 use Rattle.agal_c.specs.declared.answers.Answer.{Answer}
@@ -17,9 +17,9 @@ unfoldable pub outright_fault : List ℕ → ℕ
 outright_fault s = cond (eqb (length s) 24) (cond (shape_of (fields_of s).opcode).listed 0 9) 24
 
 -- an answer to a delivery as one number: 0, or the fault's number plus 256 times its part
-abbrev pub delivery_code : Decoded → List ℕ → ℕ
-delivery_code (Read t) buffer = cond (ltb (length buffer) 29) 23 0
-delivery_code (NotRead r) buffer = r.number + 256 * r.part
+abbrev pub delivery_code : Result Token Refusal → List ℕ → ℕ
+delivery_code (Ok t) buffer = cond (ltb (length buffer) 29) 23 0
+delivery_code (Err r) buffer = r.number + 256 * r.part
 
 -- the answer that such a number stands for, at a place and with the next one
 unfoldable pub code_answer : ℕ → ℕ → ℕ → Answer

@@ -1,15 +1,14 @@
 -- What the code asks of a record before it places the values at their bits: those whose places are narrower than their types fit them. Of
 -- an encodable record they do.
-use Rattle.std.specs.Prelude.{ℕ, ◌<◌}
-use Rattle.layout.specs.declared.record.Destination.{Destination}
-use Rattle.layout.specs.declared.record.Destination.TheVariants.{Unused as NoDestination, Masked}
+use Rattle.std.specs.Prelude.{ℕ, ◌<◌, None, Option, Some}
+use Rattle.layout.specs.declared.record.MaskedRegister.{MaskedRegister}
 use Rattle.layout.specs.declared.record.Operand.{Operand}
 use Rattle.layout.specs.declared.record.Operand.TheVariants.{Unused as NoOperand, Direct, Indexed, Sampler as Sampled}
 
 -- the values of a destination
-abbrev pub DestinationPlaced : Destination → Type 0
-DestinationPlaced NoDestination = Unit {0}
-DestinationPlaced (Masked r) = (r.mask < 16) × (r.kind < 16)
+abbrev pub DestinationPlaced : Option MaskedRegister → Type 0
+DestinationPlaced None = Unit {0}
+DestinationPlaced (Some r) = (r.mask < 16) × (r.kind < 16)
 
 -- the values of a source from bit 32 on
 pub record SourceHigh (t i q d : ℕ) : Type 0 where

@@ -1,14 +1,12 @@
 -- The state that the code keeps, and what a token makes of it. Nobody has to believe these: what the check answers is stated over rules and
 -- paths (Exact).
-use Rattle.std.specs.Prelude.{ℕ, ◌+◌, ◌%◌, Bool, true, false, cond, ◌||◌, eqb, ltb, leb, get_or, set, replicate, Some, None}
+use Rattle.std.specs.Prelude.{ℕ, ◌+◌, ◌%◌, Bool, true, false, cond, ◌||◌, eqb, ltb, leb, get_or, set, replicate, Option, Some, None}
 use Rattle.bytecode.specs.declared.answers.Refusal.{Refusal}
 use Rattle.components.specs.computed.Written.{join_of, mark_of}
 use Rattle.components.specs.declared.written.Written.{Written}
 use Rattle.layout.specs.declared.opcodes.Flow.{Flow}
 use Rattle.layout.specs.declared.opcodes.Flow.TheVariants.{Plain, Opener, Els, Eif}
 use Rattle.layout.specs.declared.record.MaskedRegister.{MaskedRegister}
-use Rattle.layout.specs.declared.record.Destination.{Destination}
-use Rattle.layout.specs.declared.record.Destination.TheVariants.{Unused as NoDestination, Masked}
 use Rattle.verifier.specs.declared.state.Branch.{Branch}
 use Rattle.verifier.specs.declared.state.State.{State}
 
@@ -109,6 +107,6 @@ parted_state st Eif n = st
 abbrev pub written_by : Written → MaskedRegister → Written
 written_by w r = mark_of w r.number (cond (eqb r.kind 2) r.mask 0)
 
-abbrev pub wrote_state : State → Destination → State
-wrote_state st NoDestination = st
-wrote_state st (Masked r) = with_current st (written_by st.current r)
+abbrev pub wrote_state : State → Option MaskedRegister → State
+wrote_state st None = st
+wrote_state st (Some r) = with_current st (written_by st.current r)

@@ -1,7 +1,7 @@
 -- The goals of `deliver` that the check leaves.
+use Rattle.std.specs.Prelude.{Err}
 use mathlib.Core.Path.{◌∙◌, sym, ap}
 use borrow.Author.Tests.{not-true, not-false}
-use Rattle.bytecode.specs.declared.answers.Decoded.TheVariants.{Refused as NotRead}
 use Rattle.agal_c.proofs.CallLaws.{faulty, fine, not_read, no_room, room}
 use mathlib.Core.Bool.{not}
 use Rattle.agal_c.proofs.flat.deliver.Goals as goal
@@ -13,7 +13,7 @@ returns-then-not-is_clean c =
     let clean = c.is_clean in
     let fault = c.fault_of-fault in
     let e = faulty c.args.token.now c.requires f.result k.result f.ensures k.ensures (sym clean.ensures ∙ not-true clean.result (ap not c.if-not-is_clean.true)) in
-    let l = not_read c.args.token.now c.args.flat.now fault.result (e ∙ ap NotRead (sym fault.ensures)) in
+    let l = not_read c.args.token.now c.args.flat.now fault.result (e ∙ ap Err (sym fault.ensures)) in
     record { value = l.0; flat_after = l.1 }
 
 pub returns-then-flat-lt29 : goal.returns-then-flat-lt29

@@ -6,8 +6,8 @@ use Rattle.report.proofs.opening.answer_of.Goals as goal
 
 pub overflow_cast-heading : goal.overflow_cast-heading
 overflow_cast-heading c =
-    search (rules, tokens_few c.args.edition c.args.bytes.now c.requires _ (sym c.check.ensures.answer ∙ c.in-Accepted.is))
+    search (rules, tokens_few c.args.edition c.args.bytes.now c.requires _ (sym c.check.ensures.answer ∙ c.in-Ok.is))
 
-pub returns-in-Accepted : goal.returns-in-Accepted
-returns-in-Accepted c =
-    accepted_opens c.args.edition c.args.bytes.now c.requires _ (sym c.check.ensures.answer ∙ c.in-Accepted.is)
+pub returns-in-Ok : goal.returns-in-Ok
+returns-in-Ok c =
+    accepted_opens c.args.edition c.args.bytes.now c.requires _ (sym c.check.ensures.answer ∙ c.in-Ok.is)

@@ -2,12 +2,12 @@
 use Rattle.report.proofs.TokensRead.{record_is, token_read}
 use Rattle.report.proofs.tokens.token_at.Goals as goal
 
-pub returns-in-Token : goal.returns-in-Token
-returns-in-Token c =
+pub returns-in-Ok : goal.returns-in-Ok
+returns-in-Ok c =
     let a = c.args in
-    record_is a.bytes.now a.token c.requires _ c.read_at.ensures.answer _ c.in-Token.is
+    record_is a.bytes.now a.token c.requires _ c.read_at.ensures.answer _ c.in-Ok.is
 
-pub returns-in-Refused : goal.returns-in-Refused
-returns-in-Refused c =
+pub returns-in-Err : goal.returns-in-Err
+returns-in-Err c =
     let a = c.args in
-    absurd (token_read a.bytes.now a.token c.requires _ c.read_at.ensures.answer _ c.in-Refused.is)
+    absurd (token_read a.bytes.now a.token c.requires _ c.read_at.ensures.answer _ c.in-Err.is)
