@@ -40,15 +40,6 @@ use Rattle.verifier.specs.declared.state.State.{State}
 use Rattle.verifier.proofs.StepLaw.{by_tests, follow_tests}
 use Rattle.verifier.proofs.StepsLaw.{one_more}
 
-not_plain : Opener ≡ Plain → ⊥
-not_plain e = let z : ◌≡◌ {A = ℕ} 0 1 = cc in omega arith
-
-not_els : Opener ≡ Els → ⊥
-not_els e = let z : ◌≡◌ {A = ℕ} 0 1 = cc in omega arith
-
-not_eif : Opener ≡ Eif → ⊥
-not_eif e = let z : ◌≡◌ {A = ℕ} 0 1 = cc in omega arith
-
 -- what a token reads that reads nothing unwritten, as the code asks for it
 right1 : (w : Written) (f : Fields) → ReadsWritten w f → lacks_access w (access1_of (token_of (shape_of f.opcode) f)) ≡ false
 right1 w f reads = sym (lacks_reads1 w (token_of (shape_of f.opcode) f)) ∙ reads.0
@@ -96,10 +87,10 @@ module _ (st : State) (sound : st.fault ≡ None) (token : ℕ) where
 
       reads : (flow : Flow) → flow_of f.opcode ≡ flow → opens_unwritten flow st.current f ≡ false
           → (lacks_access (met_state st flow).current (access1_of (token_of (shape_of f.opcode) f)) ≡ false) × (lacks_access (met_state st flow).current (access2_of (token_of (shape_of f.opcode) f)) ≡ false)
-      reads Plain e l = written st.current (λ o. absurd (not_plain (sym o ∙ e)))
+      reads Plain e l = written st.current (λ o. cc)
       reads Opener e l = written st.current (λ o. l)
-      reads Els e l = written (met_state st Els).current (λ o. absurd (not_els (sym o ∙ e)))
-      reads Eif e l = written (met_state st Eif).current (λ o. absurd (not_eif (sym o ∙ e)))
+      reads Els e l = written (met_state st Els).current (λ o. cc)
+      reads Eif e l = written (met_state st Eif).current (λ o. cc)
 
 -- By a test that tells lawful tokens, with the test that goes with it of what they read: `told` and `asked` are what the code was answered.
 module _ (f : Fields) (test : Profile → Usable → Bool) (unwritten : Written → Fields → Bool)

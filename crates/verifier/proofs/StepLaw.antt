@@ -68,23 +68,18 @@ kept edition stage (Some r) e =
     let q = ap (λ x. count_of x edition stage) k in
     omega (arith, temporary_count edition stage)
 
--- ---- the fault stays as a token is met, written and passed
+-- ---- what follows a token without a fault
 
-met_fault : (st : State) (f : Flow) → (met_state st f).fault ≡ st.fault
-met_fault st Plain = refl
-met_fault st Opener = refl
-met_fault st Els = refl
-met_fault st Eif = refl
-
-wrote_fault : (st : State) (d : Option MaskedRegister) → (wrote_state st d).fault ≡ st.fault
-wrote_fault st None = refl
-wrote_fault st (Some r) = refl
-
-parted_fault : (st : State) (f : Flow) (n : ℕ) → (parted_state st f n).fault ≡ st.fault
-parted_fault st Plain n = refl
-parted_fault st Opener n = refl
-parted_fault st Els n = refl
-parted_fault st Eif n = refl
+-- the fault stays as a token is met, written and passed
+fault_stays : (st : State) (f : Flow) (d : Option MaskedRegister) (n : ℕ) → (parted_state (wrote_state (met_state st f) d) f n).fault ≡ st.fault
+fault_stays st Plain None n = refl
+fault_stays st Plain (Some r) n = refl
+fault_stays st Opener None n = refl
+fault_stays st Opener (Some r) n = refl
+fault_stays st Els None n = refl
+fault_stays st Els (Some r) n = refl
+fault_stays st Eif None n = refl
+fault_stays st Eif (Some r) n = refl
 
 -- the set at hand of the state that a token meets
 met_current : (st : State) (f : Flow) → set_met f st.current st.innermost.kept ≡ (met_state st f).current
@@ -141,7 +136,7 @@ module _ (st : State) (v : Valid st) (sound : st.fault ≡ None) (n : ℕ) (t : 
 
   -- a step makes no fault but those that it names
   next_sound : (next_of st n t).fault ≡ None
-  next_sound = parted_fault (wrote_state (met_state st f) t.destination) f n ∙ wrote_fault (met_state st f) t.destination ∙ met_fault st f ∙ sound
+  next_sound = fault_stays st f t.destination n ∙ sound
 
   -- the tests by their values
   decided : (m a b : Bool) (later : Answer) → (m ≡ false → later ≡ check_from (abstract_of (next_of st n t)) (suc n) rest)

@@ -40,9 +40,8 @@ fn opens_unlisted(bytes: &[u8]) -> bool
     if bytes.len() < 31 {
         return false;
     }
-    let f = places::fields_at(bytes, 0);
-    let shape = opcodes::shape_of(f.opcode);
-    !shape.listed
+    let first = places::fields_at(bytes, 0);
+    !opcodes::shape_of(first.opcode).listed
 }
 
 // Faults 9 to 22 of a program that has a header.
