@@ -1,11 +1,10 @@
 -- What is known at a glance of a token is what its step does.
 -- Assumes nothing.
 use Prim.Native.Nat.{ℕ, ◌+◌, ◌-◌, ◌≤◌}
-use mathlib.Core.Bool.{Bool, true, false, not, false≢true}
+use mathlib.Core.Bool.{Bool, true, false, not}
 use mathlib.Core.List.{List}
-use mathlib.Core.Path.{◌≡◌, refl, ◌∙◌, sym, ap, ap₂, subst}
+use mathlib.Core.Path.{◌≡◌, refl, ◌∙◌, sym, ap, ap₂}
 use native.Mathlib.Omega.{arith}
-use borrow.Author.Tests.{not-true}
 use Rattle.std.specs.Prelude.{None, IfSome}
 use Rattle.std.specs.Bool.{then_some}
 use Rattle.bytecode.specs.Decode.{no_refusal}
@@ -33,7 +32,7 @@ use Rattle.faults.proofs.LawfulBranch.{LawfulBranch, lawful_branch}
 use Rattle.faults.proofs.LawfulKil.{lawful_kil}
 use Rattle.faults.proofs.LawfulToken.{ToldLawful, LawfulToken}
 use Rattle.verifier.specs.computed.Glance.{passed_unless, Whenever, Passes, opens_unwritten, branch_step, KnownBranch}
-use Rattle.verifier.specs.computed.State.{is_out_of_place, is_misplaced, met_state, parted_state, with_current, written_by, wrote_state}
+use Rattle.verifier.specs.computed.State.{is_misplaced, met_state, parted_state, with_current, written_by, wrote_state}
 use Rattle.verifier.specs.computed.Step.{fault_of_fields, follow_of, step_of}
 use Rattle.verifier.specs.computed.Steps.{steps_over}
 use Rattle.verifier.specs.declared.state.State.{State}
