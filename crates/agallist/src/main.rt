@@ -1,25 +1,36 @@
 // Reads an edition digit and a program's bytes from standard input, and prints the listing or the refusal.
 #![tactic(auto)]
 
+ghost use Rattle.std.specs.Prelude.{◌≤◌, length, OnOk, IfSome};
+ghost use Rattle.std.specs.Io.KnownBytes.{Appends};
+ghost use Rattle.report.specs.Text.{text_of};
+
+use std::alloc::Global;
 use std::io;
 use std::io::{Read, Write};
 
 fn main(rt: HostRuntime) -> io::Result<()> {
-    let alloc = rt.alloc();
-    // One byte more than the limit, so that a longer input is known as such.
-    let mut input = Vec::new(alloc);
-    rt.reader().take(49161).read_to_end(&mut input)?;
-    // The longest text that there is fits.
-    let mut text = vec![in alloc; 0u8; 262178]?;
-    match report::report(&input, &mut text) {
-        Ok(length) => write(&mut io::writer(&rt), &text, length),
-        Err(_) => Ok(()),
-    }
+    list(rt.alloc(), rt.reader(), &mut io::writer(&rt))
 }
 
-fn write<W: Write>(out: &mut W, text: &[u8], length: usize) -> io::Result<()> {
-    if text.len() < length {
-        return Ok(());
+// From a reader to a writer: the text of all that the reader has left.
+fn list<R: Read + Drop, W: Write>(alloc: Global, input: R, out: &mut W) -> io::Result<()>
+    ensures { OnOk result (IfSome (R.remaining input) (λ bytes. Appends (W.contents out.old) (W.contents out.new) (text_of bytes))) }
+{
+    // One byte more than the limit, so that a longer input is known as such.
+    let mut bytes = Vec::new(alloc);
+    input.take(49161).read_to_end(&mut bytes)?;
+    let mut buffer = vec![in alloc; 0u8; 262178]?;
+    put(out, &bytes, &mut buffer)
+}
+
+// The text of an input, by way of a buffer that is room for any text.
+fn put<W: Write>(out: &mut W, input: &[u8], buffer: &mut [u8]) -> io::Result<()>
+    requires { 262178 ≤ length buffer.old }
+    ensures { OnOk result (Appends (W.contents out.old) (W.contents out.new) (text_of input.now)) }
+{
+    match report::report(input, buffer) {
+        Ok(length) => out.write_all(&buffer[..length]),
+        Err(_) => Ok(()),
     }
-    out.write_all(&text[..length])
 }

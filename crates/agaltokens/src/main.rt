@@ -2,11 +2,6 @@
 // answers: to its opening, and to each read. The reader needs no edition and does not judge the program.
 #![tactic(auto)]
 
-mod print;
-mod reading;
-
-use bytecode::answers::Refusal;
-use layout::record::Token;
 use std::io;
 use std::io::{BufWriter, Read, Write};
 
@@ -22,36 +17,35 @@ fn main(rt: HostRuntime) -> io::Result<()> {
 
 fn answer<W: Write>(out: &mut W, input: &[u8]) -> io::Result<()> {
     if 49160 < input.len() {
-        return print::text(out, b"input too long\n");
+        return out.write_all(b"input too long\n");
     }
-    if input.len() == 0 {
-        return print::text(out, b"no edition\n");
+    match input.split_first() {
+        None => out.write_all(b"no edition\n"),
+        Some((_, program)) => read_all(out, program),
     }
-    read_all(out, &input[1..])
 }
 
 // Two reads more than there are tokens: the end stays the end.
 fn read_all<W: Write>(out: &mut W, program: &[u8]) -> io::Result<()> {
-    opened(out, reading::open(program))?;
-    let mut place = 0;
+    let opened = reader::open(program);
+    match opened.answer {
+        Ok(()) => writeln!(out, "open")?,
+        Err(r) => writeln!(out, "{r}")?,
+    }
+    let mut reader = opened.reader;
     for _ in 0..program.len() / 24 + 2 {
-        let step = reading::read(program, place);
-        read(out, place, step.answer)?;
-        place = step.place;
+        let place = reader.place;
+        let read = reader::read(reader);
+        match read.answer {
+            Ok(t) => token(out, place, t.opcode)?,
+            Err(r) => writeln!(out, "{r}")?,
+        }
+        reader = read.reader;
     }
     Ok(())
 }
 
-fn opened<W: Write>(out: &mut W, answer: Result<(), Refusal>) -> io::Result<()> {
-    match answer {
-        Ok(()) => print::text(out, b"open\n"),
-        Err(r) => print::refusal(out, r),
-    }
-}
-
-fn read<W: Write>(out: &mut W, place: usize, answer: Result<Token, Refusal>) -> io::Result<()> {
-    match answer {
-        Ok(t) => print::token(out, place, t.opcode),
-        Err(r) => print::refusal(out, r),
-    }
+// The opcode is printed in hexadecimal, as the format lists it.
+fn token<W: Write>(out: &mut W, place: usize, opcode: u32) -> io::Result<()> {
+    writeln!(out, "token {place} opcode {opcode:02x}")
 }

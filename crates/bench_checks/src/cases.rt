@@ -1,62 +1,46 @@
 // One case after the other.
-ghost use Rattle.std.specs.Prelude.{◌≤◌, length};
-
-use crate::print::Form;
 use crate::{codec, flat, hex, lines, print, programs};
 use std::io;
 use std::io::Write;
 
-// The bytes of a case are read into the buffer, as many as there is room for.
-pub fn run<W: Write>(out: &mut W, text: &[u8], buffer: &mut [u8]) -> io::Result<()> {
-    let mut at = 0;
-    while at < text.len() {
-        let end = line_end(text, at);
-        case(out, &text[at..end], buffer)?;
-        at = end + 1;
+// How many bytes a case has at most.
+pub const ROOM: usize = 65536;
+
+// The bytes of each case in turn are read into `bytes`.
+pub fn run<W: Write>(out: &mut W, text: &[u8], mut bytes: Vec<u8>) -> io::Result<()> {
+    for line in text.split(|byte| *byte == b'\n') {
+        case(out, line, &mut bytes)?;
     }
     Ok(())
 }
 
-// Where the line that stands at a place ends.
-fn line_end(text: &[u8], at: usize) -> usize
-    requires { at ≤ length text.now }
-    ensures after { at ≤ result }
-    ensures in_bounds { result ≤ length text.now }
-{
-    let mut end = at;
-    while end < text.len() {
-        if text[end] == 10 {
-            return end;
-        }
-        end += 1;
-    }
-    end
-}
-
-fn case<W: Write>(out: &mut W, line: &[u8], buffer: &mut [u8]) -> io::Result<()> {
-    if line.len() < 1 {
+fn case<W: Write>(out: &mut W, line: &[u8], bytes: &mut Vec<u8>) -> io::Result<()> {
+    let Some((letter, digits)) = line.split_first() else {
         return Ok(());
+    };
+    if *letter == b'#' {
+        out.write_all(line)?;
+        return writeln!(out);
     }
-    let letter = line[0];
-    if letter == b'#' {
-        print::text(out, line)?;
-        return print::end_line(out);
-    }
-    let n = hex::read(&line[1..], buffer);
-    match letter {
-        b'd' => codec::decoded(out, &buffer[..n]),
-        b'e' => encoded(out, &buffer[..n]),
-        b'l' => lines::listed(out, &buffer[..n]),
-        b'c' => programs::checked(out, &buffer[..n]),
-        b'r' => programs::repeated(out, buffer, n),
-        b's' => print::bytes(out, &buffer[..n], Form::Components),
-        _ => print::text(out, b"no such case\n"),
+    hex::read(digits, bytes)?;
+    match *letter {
+        b'd' => codec::decoded(out, bytes),
+        b'e' => encoded(out, bytes),
+        b'l' => lines::listed(out, bytes),
+        b'c' => programs::checked(out, bytes),
+        b'r' => programs::repeated(out, bytes),
+        b's' => print::bytes(
+            out,
+            bytes,
+            |out, byte| write!(out, " {}", layout::components(byte)),
+        ),
+        _ => print::no_such_case(out),
     }
 }
 
 fn encoded<W: Write>(out: &mut W, bytes: &[u8]) -> io::Result<()> {
     if bytes.len() != 30 {
-        return print::text(out, b"no such case\n");
+        return print::no_such_case(out);
     }
     codec::encoded(out, bytes[0], flat::token(bytes))
 }

@@ -1,54 +1,37 @@
 // Bytes written in hexadecimal.
-ghost use Rattle.std.specs.Prelude.{◌≤◌, length};
+ghost use Rattle.std.specs.Prelude.{◌<◌, IfSome};
 
-// The value of a digit, or 16 where it is none.
-fn digit(c: u8) -> u8 {
-    if c < 48 {
-        return 16;
-    }
-    if c < 58 {
-        return c - 48;
-    }
-    if c < 97 {
-        return 16;
-    }
-    if c < 103 {
-        return c - 87;
-    }
-    16
-}
+use crate::cases::ROOM;
+use std::alloc::AllocError;
 
-// The byte that two digits make, or 256 where one of them is none.
-fn pair(high: u8, low: u8) -> u16 {
-    let h = digit(high);
-    let l = digit(low);
-    if 16 <= h {
-        return 256;
-    }
-    if 16 <= l {
-        return 256;
-    }
-    h as u16 * 16 + l as u16
-}
-
-// Reads pairs of digits into out, as many as there is room for, and passes over everything else. Answers how many bytes it read.
-pub fn read(text: &[u8], out: &mut [u8]) -> usize
-    ensures { result ≤ length out.new }
+fn digit(c: u8) -> Option<u8>
+    ensures { IfSome result (λ value. value < 16) }
 {
-    let mut at = 0;
-    let mut count = 0;
-    while at + 1 < text.len() {
-        let byte = pair(text[at], text[at + 1]);
-        if 256 <= byte {
-            at += 1;
-            continue;
-        }
-        if out.len() <= count {
-            return count;
-        }
-        out[count] = (byte % 256) as u8;
-        count += 1;
-        at += 2;
+    match c {
+        b'0'..=b'9' => Some(c - b'0'),
+        b'a'..=b'f' => Some(c - b'a' + 10),
+        _ => None,
     }
-    count
+}
+
+// The byte that two digits make.
+fn pair(high: u8, low: u8) -> Option<u8> {
+    Some(digit(high)? * 16 + digit(low)?)
+}
+
+// Reads pairs of digits, as many as there is room for, and passes over everything else.
+pub fn read(text: &[u8], bytes: &mut Vec<u8>) -> Result<(), AllocError> {
+    bytes.clear();
+    let mut left = text;
+    while let [high, low, after @ ..] = left {
+        match pair(*high, *low) {
+            None => left = &left[1..],
+            Some(_) if ROOM <= bytes.len() => return Ok(()),
+            Some(byte) => {
+                bytes.push(byte)?;
+                left = after;
+            }
+        }
+    }
+    Ok(())
 }

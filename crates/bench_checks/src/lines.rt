@@ -7,7 +7,7 @@ use std::io::Write;
 // A record as the cases of encode have it, its first byte the room there is, and then a stage and a depth.
 pub fn listed<W: Write>(out: &mut W, bytes: &[u8]) -> io::Result<()> {
     if bytes.len() != 32 {
-        return print::text(out, b"no such case\n");
+        return print::no_such_case(out);
     }
     listed_in(out, bytes[0], flat::token(bytes), bytes[30], bytes[31])
 }
@@ -29,17 +29,15 @@ fn listed_into<W: Write>(
 ) -> io::Result<()> {
     match listing::line(t, stage, depth, buffer) {
         Err(r) => {
-            print::refusal(out, r)?;
-            print::text(out, buffer)?;
-            print::end_line(out)
+            writeln!(out, "{r}")?;
+            out.write_all(buffer)?;
+            writeln!(out)
         }
         Ok(n) => {
-            print::text(out, b"length")?;
-            print::number(out, n as u64)?;
-            print::end_line(out)?;
-            print::text(out, buffer)?;
+            writeln!(out, "length {n}")?;
+            out.write_all(buffer)?;
             if n != buffer.len() {
-                print::end_line(out)?;
+                writeln!(out)?;
             }
             Ok(())
         }

@@ -17,8 +17,7 @@ fn main(rt: HostRuntime) -> io::Result<()> {
     let alloc = rt.alloc();
     let mut text = Vec::new(alloc);
     rt.reader().take(524288).read_to_end(&mut text)?;
-    let mut bytes = vec![in alloc; 0u8; 65536]?;
     let mut out = BufWriter::new(alloc, io::writer(&rt))?;
-    cases::run(&mut out, &text, &mut bytes)?;
+    cases::run(&mut out, &text, Vec::with_capacity(alloc, cases::ROOM)?)?;
     out.flush()
 }

@@ -1,50 +1,43 @@
 // Cases of the whole check.
-ghost use Rattle.std.specs.Prelude.{◌≤◌, length};
+ghost use Rattle.std.specs.Prelude.{◌≤◌, vec_len};
 
-use crate::{flat, print};
+use crate::cases::ROOM;
+use crate::print;
+use std::alloc::AllocError;
 use std::io;
 use std::io::Write;
 
 // An edition in four bytes, and a program.
 pub fn checked<W: Write>(out: &mut W, bytes: &[u8]) -> io::Result<()> {
-    if bytes.len() < 4 {
-        return print::text(out, b"no such case\n");
-    }
-    let edition = layout::word(bytes[0], bytes[1], bytes[2], bytes[3]);
-    match verifier::check(edition, &bytes[4..]) {
-        Err(r) => print::refusal(out, r),
-        Ok(p) => {
-            print::text(out, b"accepted")?;
-            print::number(out, p.stage as u64)?;
-            print::number(out, p.tokens as u64)?;
-            print::end_line(out)
-        }
+    let Some((edition, program)) = bytes.split_first_chunk::<4>() else {
+        return print::no_such_case(out);
+    };
+    match verifier::check(u32::from_le_bytes(*edition), program) {
+        Err(r) => writeln!(out, "{r}"),
+        Ok(p) => writeln!(out, "accepted {} {}", p.stage, p.tokens),
     }
 }
 
 // How often in two bytes, an edition and a program, whose last token is there that many times more: programs at the limits are long.
-pub fn repeated<W: Write>(out: &mut W, bytes: &mut [u8], n: usize) -> io::Result<()>
-    requires { n ≤ length bytes.old }
-{
-    if n < 30 {
-        return print::text(out, b"no such case\n");
+pub fn repeated<W: Write>(out: &mut W, bytes: &mut Vec<u8>) -> io::Result<()> {
+    if bytes.len() < 30 {
+        return print::no_such_case(out);
     }
-    let times = flat::half(bytes[0], bytes[1]) as usize;
-    let end = n + times * 24;
-    if bytes.len() < end {
-        return print::text(out, b"no such case\n");
+    let times = u16::from_le_bytes([bytes[0], bytes[1]]);
+    if ROOM < bytes.len() + 24 * times as usize {
+        return print::no_such_case(out);
     }
-    repeat(bytes, n, end);
-    checked(out, &bytes[2..end])
+    repeat_last(bytes, times)?;
+    checked(out, &bytes[2..])
 }
 
-fn repeat(bytes: &mut [u8], from: usize, end: usize)
-    requires le_from { 24 ≤ from }
-    requires end_in_bounds { end ≤ length bytes.old }
+fn repeat_last(bytes: &mut Vec<u8>, times: u16) -> Result<(), AllocError>
+    requires { 24 ≤ vec_len bytes.old }
+    ensures { vec_len bytes.old ≤ vec_len bytes.new }
 {
-    let mut at = from;
-    while at < end {
-        bytes[at] = bytes[at - 24];
-        at += 1;
+    let last = bytes.len() - 24;
+    for _ in 0..times {
+        bytes.extend_from_within(last..last + 24)?;
     }
+    Ok(())
 }

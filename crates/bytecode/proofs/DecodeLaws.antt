@@ -7,14 +7,15 @@ use mathlib.Core.List.{List}
 use mathlib.Core.Path.{◌≡◌, refl, ◌∙◌, sym, ap}
 use native.Mathlib.Omega.{arith}
 use lib.Dec.{eqb}
+use Rattle.std.specs.Prelude.{Option, Some, None, ⊤}
 use lib.ListN.{length}
 use borrow.Author.Tests.{eq-eqb, ne_eqb, eqb-true, eqb-false, not-false}
 use Rattle.layout.specs.Opcodes.{shape_of}
 use Rattle.bytecode.specs.Fields.{fields_of}
 use Rattle.layout.specs.Layout.{destination_bits, operand_bits, is_stray}
 use Rattle.layout.specs.Records.{token_of}
-use Rattle.bytecode.specs.Decode.{refusal, no_refusal, lowest_part, unused_part, undefined_part, token_fault, decode_fault, decode_of, Decodes}
-use Rattle.bytecode.specs.computed.CleanFields.{is_clean}
+use Rattle.bytecode.specs.Decode.{refusal, no_refusal, outcome, unused_not_zero, undefined_bit_set, lowest_part, unused_part, undefined_part, token_fault, decode_fault, decode_of, Decodes}
+use Rattle.bytecode.specs.computed.CleanFields.{is_clean, part_of, LowestPart}
 use Rattle.layout.specs.declared.opcodes.Shape.{Shape}
 use Rattle.layout.specs.declared.fields.Fields.{Fields}
 use Rattle.layout.specs.declared.record.Token.{Token}
@@ -36,6 +37,46 @@ unfolding token_fault chain
 no_fault s f e =
     no_chain (not s.listed) (not (eqb (unused_part s f) 0)) (not (eqb (undefined_part s f) 0)) (unused_part s f) (undefined_part s f) e
 
+-- the part that is named is the number, which is not 0
+pub some_part : (n p : ℕ) → part_of n ≡ Some p → (n ≡ p) × (eqb p 0 ≡ false)
+some_part n p e = go (eqb n 0) refl e
+  where
+    go : (b : Bool) → eqb n 0 ≡ b → cond b None (Some n) ≡ Some p → (n ≡ p) × (eqb p 0 ≡ false)
+    go true h k = absurd (false≢true cc)
+    go false h k = let e : n ≡ p = cc in (e, rw e at h)
+
+pub is_unused_part : (s : Shape) (f : Fields) (part : Option ℕ) → LowestPart (λ d x r. r ≡ unused_not_zero d x) s f part → part ≡ part_of (unused_part s f)
+unfolding unused_part
+is_unused_part s f part l = l.lowest ∙ rw (l.of_destination, l.of_source1, l.of_source2)
+
+pub is_undefined_part : (s : Shape) (f : Fields) (part : Option ℕ) → LowestPart (λ d x r. r ≡ undefined_bit_set d x) s f part → part ≡ part_of (undefined_part s f)
+unfolding undefined_part
+is_undefined_part s f part l = l.lowest ∙ rw (l.of_destination, l.of_source1, l.of_source2)
+
+-- where none is named, the number is 0
+pub no_part : (n : ℕ) → ((p : ℕ) → part_of n ≡ Some p → ⊥) → eqb n 0 ≡ true
+no_part n none = go (eqb n 0) refl
+  where
+    go : (b : Bool) → eqb n 0 ≡ b → eqb n 0 ≡ true
+    go true h = h
+    go false h = absurd (none n (rw h))
+
+-- a fault that is told has a number
+pub told : (fault r : Refusal) → outcome fault ≡ Err r → (fault ≡ r) × (r.number ≡ 0 → ⊥)
+told fault r e = go (eqb fault.number 0) refl e
+  where
+    go : (b : Bool) → eqb fault.number 0 ≡ b → cond b (Ok (tt {0})) (Err fault) ≡ Err r → (fault ≡ r) × (r.number ≡ 0 → ⊥)
+    go true h k = absurd (false≢true cc)
+    go false h k = let q : fault ≡ r = cc in (q, λ z. eqb-false _ 0 h (ap (λ x. x.number) q ∙ z))
+
+-- where none is told, the number is 0
+pub not_told : (fault : Refusal) (u : ⊤) → outcome fault ≡ Ok u → fault.number ≡ 0
+not_told fault u e = go (eqb fault.number 0) refl e
+  where
+    go : (b : Bool) → eqb fault.number 0 ≡ b → cond b (Ok tt) (Err fault) ≡ Ok u → fault.number ≡ 0
+    go true h k = eqb-true _ 0 h
+    go false h k = let z : ◌≡◌ {A = ℕ} 0 1 = cc in absurd (omega arith)
+
 module _ (s : List ℕ) where
   by_fields : length s ≡ 24 → decode_fault s ≡ token_fault (shape_of (fields_of s).opcode) (fields_of s)
   unfolding decode_fault
@@ -52,6 +93,9 @@ module _ (s : List ℕ) where
 
   pub with_fault_lem : length s ≡ 24 → ((token_fault (shape_of (fields_of s).opcode) (fields_of s)).number ≡ 0 → ⊥) → Decodes s (Err (token_fault (shape_of (fields_of s).opcode) (fields_of s)))
   with_fault_lem h n = refused_by_lem (token_fault (shape_of (fields_of s).opcode) (fields_of s)) (by_fields h) n
+
+  pub with_told : length s ≡ 24 → (r : Refusal) → outcome (token_fault (shape_of (fields_of s).opcode) (fields_of s)) ≡ Err r → Decodes s (Err r)
+  with_told h r e = let (q, n) = told _ r e in refused_by_lem r (by_fields h ∙ q) n
 
   pub no_faults : length s ≡ 24 → (token_fault (shape_of (fields_of s).opcode) (fields_of s)).number ≡ 0 → Decodes s (Ok (token_of (shape_of (fields_of s).opcode) (fields_of s)))
   unfolding decode_of

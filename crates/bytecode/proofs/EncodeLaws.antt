@@ -1,4 +1,4 @@
--- What is to be tested of a source, and what encode's answer is, from its fault.
+-- What encode's answer is, from its fault.
 -- Assumes nothing.
 use Rattle.std.specs.Prelude.{Err, Ok}
 use Prim.Native.Nat.{ℕ, ◌<◌, ◌≤◌}
@@ -6,17 +6,12 @@ use mathlib.Core.Bool.{Bool, true, false, cond, ◌&&◌, and-true}
 use mathlib.Core.List.{List, ◌++◌}
 use mathlib.Core.Path.{◌≡◌, refl}
 use native.Mathlib.Omega.{arith}
-use lib.Dec.{eqb, ltb}
+use lib.Dec.{ltb}
 use lib.ListN.{length, drop}
 use borrow.Author.Tests.{lt-ltb, le-ltb, ltb-false}
 use Rattle.bytecode.specs.Decode.{refusal, no_refusal, outcome}
 use Rattle.bytecode.specs.Encode.{source_fits, is_encodable, encoded_bytes, encode_fault, encode_of, after_encode, Encodes}
 use Rattle.layout.specs.declared.record.Token.{Token}
-
--- a number of 16 bits and two of 8 fit their places
-pub source_tests : (n o s : ℕ) → n < 65536 → o < 256 → s < 256 → (t i q : ℕ) → source_fits n o s t i q ≡ (ltb t 16 && ltb i 16 && ltb q 4)
-unfolding source_fits
-source_tests n o s hn ho hs t i q = simp (lt-ltb n 65536 hn, lt-ltb o 256 ho, lt-ltb s 256 hs, and-true)
 
 module _ (t : Token) (buffer : List ℕ) where
   pub not_encodable : is_encodable t ≡ false → Encodes t buffer buffer (Err (refusal 25 0 0))

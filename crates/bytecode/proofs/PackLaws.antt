@@ -1,6 +1,6 @@
 -- What an encodable record is packed to.
 -- Assumes nothing.
-use Rattle.std.specs.Prelude.{None, Option, Some}
+use Rattle.std.specs.Prelude.{IfSome, None, Option, Some}
 use Prim.Native.Nat.{◌^◌, ◌<◌}
 use mathlib.Core.Bool.{Bool, true, false, ◌&&◌, false≢true}
 use mathlib.Core.Path.{◌≡◌, refl, ap}
@@ -9,7 +9,7 @@ use Rattle.layout.specs.Opcodes.{shape_of}
 use Rattle.layout.specs.Layout.{destination_bits, operand_bits, is_stray}
 use Rattle.layout.specs.Records.{destination_of, operand_of}
 use Rattle.bytecode.specs.Encode.{destination_fits, destination_field, operand_fits, operand_field, is_encodable}
-use Rattle.bytecode.specs.computed.Placed.{DestinationPlaced, OperandPlaced}
+use Rattle.bytecode.specs.computed.Placed.{RegisterPlaced, OperandPlaced}
 use Rattle.layout.specs.declared.opcodes.OperandShape.{OperandShape}
 use Rattle.layout.specs.declared.opcodes.OperandShape.TheVariants.{Unused as NoField, Source as SourceField, Sampler as SamplerField}
 use Rattle.layout.specs.declared.record.MaskedRegister.{MaskedRegister}
@@ -26,7 +26,7 @@ pub record DestinationPacked (used : Bool) (r : Option MaskedRegister) : Type 0 
   pub clean : is_stray (destination_bits used) (destination_field r) ≡ false
   pub again : destination_of used (destination_field r) ≡ r
   pub small : destination_field r < 2 ^ 32
-  pub placed : DestinationPlaced r
+  pub placed : IfSome r RegisterPlaced
 
 pub record OperandPacked (shape : OperandShape) (o : Operand) : Type 0 where
   pub clean : is_stray (operand_bits shape) (operand_field o) ≡ false

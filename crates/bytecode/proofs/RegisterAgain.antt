@@ -12,6 +12,7 @@ use Rattle.layout.specs.Layout as layout
 use Rattle.layout.specs.Layout.{value_of, defined_bits, destination_rows, is_stray}
 use Rattle.layout.specs.Records.{register_of}
 use Rattle.bytecode.specs.Encode.{register_fits, register_field}
+use Rattle.bytecode.specs.computed.Placed.{RegisterPlaced}
 use Rattle.layout.specs.declared.record.MaskedRegister.{MaskedRegister}
 use Rattle.layout.proofs.Rows.{Rising, Fit, pack, values_again}
 use Rattle.layout.proofs.Stray.{all_kept, none_stray}
@@ -57,9 +58,9 @@ module _ (r : MaskedRegister) (e : register_fits r ≡ true) where
   pub register_clean : is_stray (defined_bits destination_rows) (register_field r) ≡ false
   register_clean = rw (packed r) (none_stray destination_rows (values_of r) rising fit)
 
-  pub register_placed : (r.mask < 16) × (r.kind < 16)
+  pub register_placed : RegisterPlaced r
   unfolding values_of
-  register_placed = (fit.1.0, fit.1.1.0)
+  register_placed = record { mask = fit.1.0; kind = fit.1.1.0 }
 
   pub register_small : register_field r < 2 ^ 32
   unfolding register_field values_of

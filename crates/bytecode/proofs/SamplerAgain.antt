@@ -13,7 +13,7 @@ use Rattle.layout.specs.Layout as layout
 use Rattle.layout.specs.Layout.{value_of, defined_bits, sampler_rows, is_stray}
 use Rattle.layout.specs.Records.{signed, sampler_of}
 use Rattle.bytecode.specs.Encode.{unsigned, is_signed_byte, sampler_fits, sampler_field}
-use Rattle.bytecode.specs.computed.Placed.{SamplerHigh}
+use Rattle.bytecode.specs.computed.Placed.{SamplerPlaced}
 use Rattle.layout.specs.declared.record.Sampler.{Sampler}
 use Rattle.laws.proofs.Every.{below, both_left, both_right, is_true, left, right}
 use Rattle.layout.proofs.Rows.{Rising, Fit, pack, values_again}
@@ -125,11 +125,11 @@ module _ (s : Sampler) (e : sampler_fits s ≡ true) where
   unfolding values_of
   sampler_clean = rw (packed s) (none_stray sampler_rows (values_of s) rising fit)
 
-  pub sampler_placed : (s.kind < 16) × SamplerHigh s.dimension s.special s.wrap s.mipmap s.filter
+  pub sampler_placed : SamplerPlaced s
   unfolding values_of
   sampler_placed =
       let high = fit.1.1.1 in
-      (fit.1.1.0, record { dimension = high.0; special = high.1.0; wrap = high.1.1.0; mipmap = high.1.1.1.0; filter = high.1.1.1.1.0 })
+      record { kind = fit.1.1.0; dimension = high.0; special = high.1.0; wrap = high.1.1.0; mipmap = high.1.1.1.0; filter = high.1.1.1.1.0 }
 
   pub sampler_small : sampler_field s < 2 ^ 64
   unfolding sampler_field values_of

@@ -12,7 +12,7 @@ use Rattle.layout.specs.Layout as layout
 use Rattle.layout.specs.Layout.{value_of, defined_bits, source_rows, is_stray}
 use Rattle.layout.specs.Records.{direct_of, indexed_of, source_of}
 use Rattle.bytecode.specs.Encode.{source_fits, source_field, operand_fits, operand_field}
-use Rattle.bytecode.specs.computed.Placed.{SourceHigh}
+use Rattle.bytecode.specs.computed.Placed.{SourcePlaced}
 use Rattle.layout.specs.declared.opcodes.OperandShape.TheVariants.{Source as SourceField}
 use Rattle.layout.specs.declared.record.DirectSource.{DirectSource}
 use Rattle.layout.specs.declared.record.IndexedSource.{IndexedSource}
@@ -92,8 +92,8 @@ module _ (n o s t i q d : ℕ) (e : source_fits n o s t i q ≡ true) (hd : d < 
   pub source_clean : is_stray (defined_bits source_rows) (source_field n o s t i q d) ≡ false
   source_clean = rw (packed n o s t i q d) (none_stray source_rows (n ∷ o ∷ s ∷ t ∷ i ∷ q ∷ d ∷ []) rising fit)
 
-  pub source_placed : SourceHigh t i q d
-  source_placed = record { kind = fit.1.1.1.0; index_kind = fit.1.1.1.1.0; component = fit.1.1.1.1.1.0; indirect = hd }
+  pub source_placed : SourcePlaced t i q
+  source_placed = record { kind = fit.1.1.1.0; index_kind = fit.1.1.1.1.0; component = fit.1.1.1.1.1.0 }
 
   pub source_small : source_field n o s t i q d < 2 ^ 64
   unfolding source_field

@@ -1,5 +1,5 @@
 -- Document 01: the fields that a record makes, and the refusals of encode, 25 and then 23.
-use Rattle.std.specs.Prelude.{ℕ, ◌+◌, ◌-◌, Bool, true, false, not, cond, ◌&&◌, List, ◌++◌, ◌≡◌, ltb, eqb, ℤ, pos, negsuc, length, drop, Err, None, Ok, Option, Result, Some, ⊤}
+use Rattle.std.specs.Prelude.{ℕ, ◌+◌, ◌-◌, Bool, true, false, not, cond, ◌&&◌, List, ◌++◌, ◌≡◌, ltb, eqb, ℤ, pos, negsuc, length, drop, None, Option, Result, Some, ⊤}
 use Rattle.layout.specs.Layout as layout
 use Rattle.layout.specs.Layout.{placed, fits}
 use Rattle.layout.specs.Opcodes.{shape_of}

@@ -1,15 +1,13 @@
 // Decode: a record from 24 bytes, or the first fault.
 ghost use Rattle.std.specs.Prelude.{◌≡◌};
-ghost use Rattle.bytecode.specs.Decode.{Decodes, token_fault, unused_not_zero, undefined_bit_set, unused_part, undefined_part, lowest_part};
-ghost use Rattle.bytecode.specs.computed.CleanFields.{is_clean};
-ghost use Rattle.layout.specs.Records.{token_of};
+ghost use Rattle.bytecode.specs.Decode.{Decodes, outcome, token_fault, unused_not_zero, undefined_bit_set, lowest_part};
+ghost use Rattle.bytecode.specs.computed.CleanFields.{is_clean, part_of, LowestPart};
 
 use crate::answers::Refusal;
 use crate::{fields, refusals};
-use layout::fields::Fields;
-use layout::opcodes::Shape;
+use layout::bits;
+use layout::fields::RawToken;
 use layout::record::Token;
-use layout::{bits, opcodes};
 
 pub fn decode(bytes: &[u8]) -> Result<Token, Refusal>
     ensures { Decodes bytes.now result }
@@ -17,87 +15,39 @@ pub fn decode(bytes: &[u8]) -> Result<Token, Refusal>
     if bytes.len() != 24 {
         return Err(refusals::refusal(24, 0, 0));
     }
-    let f = fields::read_fields(bytes);
-    let shape = opcodes::shape_of(f.opcode);
-    if is_clean(shape, f) {
-        return Ok(token_of(shape, f));
+    let raw = RawToken::of(fields::read_fields(bytes));
+    if !is_clean(raw) {
+        fault_of(raw)?;
     }
-    Err(fault_of(shape, f))
+    Ok(raw.token())
 }
 
-fn token_of(shape: Shape, f: Fields) -> Token
-    ensures { result ≡ token_of shape f }
+// The first fault of a token's fields, 9, 12 or 13.
+pub fn fault_of(raw: RawToken) -> Result<(), Refusal>
+    ensures { result ≡ outcome (token_fault raw.shape raw.fields) }
 {
-    let shape1 = shape.source1;
-    let shape2 = shape.source2;
-    let destination = layout::unpack_destination(shape.destination, f.destination);
-    let source1 = layout::unpack_operand(shape1, f.source1);
-    let source2 = layout::unpack_operand(shape2, f.source2);
-    Token {
-        opcode: f.opcode,
-        destination,
-        source1,
-        source2,
+    if !raw.shape.listed {
+        return Err(refusals::refusal(9, 0, 0));
     }
-}
-
-// The first fault of a token's fields, 9, 12 or 13; number 0 where there is none.
-pub fn fault_of(shape: Shape, f: Fields) -> Refusal
-    ensures { result ≡ token_fault shape f }
-{
-    if !shape.listed {
-        return refusals::refusal(9, 0, 0);
+    if let Some(part) = lowest_part(raw, unused_not_zero) {
+        return Err(refusals::refusal(12, 0, part));
     }
-    let unused = unused_part(shape, f);
-    if unused != 0 {
-        return refusals::refusal(12, 0, unused);
+    if let Some(part) = lowest_part(raw, undefined_bit_set) {
+        return Err(refusals::refusal(13, 0, part));
     }
-    let undefined = undefined_part(shape, f);
-    if undefined != 0 {
-        return refusals::refusal(13, 0, undefined);
-    }
-    refusals::refusal(0, 0, 0)
+    Ok(())
 }
 
 // Whether the opcode is listed and no field has a stray bit. Most tokens are clean, so it is tested before a fault is looked for.
-pub fn is_clean(shape: Shape, f: Fields) -> bool
-    ensures { result ≡ is_clean shape f }
+#[tactic(auto, unfolding(crate::specs::computed::CleanFields::is_clean))]
+pub fn is_clean(raw: RawToken) -> bool
+    ensures { result ≡ is_clean raw.shape raw.fields }
 {
-    if !shape.listed {
-        return false;
-    }
-    let shape1 = shape.source1;
-    let shape2 = shape.source2;
-    let destination = bits::is_stray(bits::destination_bits(shape.destination), f.destination);
-    let source1 = bits::is_stray(bits::operand_bits(shape1), f.source1);
-    let source2 = bits::is_stray(bits::operand_bits(shape2), f.source2);
-    !(destination | source1 | source2)
-}
-
-// The lowest part that is unused and not 0, or 0.
-fn unused_part(shape: Shape, f: Fields) -> u8
-    ensures { result ≡ unused_part shape f }
-{
-    let shape1 = shape.source1;
-    let shape2 = shape.source2;
-    lowest(
-        unused_not_zero(bits::destination_bits(shape.destination), f.destination),
-        unused_not_zero(bits::operand_bits(shape1), f.source1),
-        unused_not_zero(bits::operand_bits(shape2), f.source2),
-    )
-}
-
-// The lowest part that is used and has an undefined bit set, or 0.
-fn undefined_part(shape: Shape, f: Fields) -> u8
-    ensures { result ≡ undefined_part shape f }
-{
-    let shape1 = shape.source1;
-    let shape2 = shape.source2;
-    lowest(
-        undefined_bit_set(bits::destination_bits(shape.destination), f.destination),
-        undefined_bit_set(bits::operand_bits(shape1), f.source1),
-        undefined_bit_set(bits::operand_bits(shape2), f.source2),
-    )
+    let RawToken { shape, fields } = raw;
+    shape.listed
+        && !(bits::is_stray(bits::destination_bits(shape.destination), fields.destination)
+            | bits::is_stray(bits::operand_bits(shape.source1), fields.source1)
+            | bits::is_stray(bits::operand_bits(shape.source2), fields.source2))
 }
 
 // A field with no defined bits is unused, and must be 0.
@@ -113,17 +63,32 @@ fn undefined_bit_set(defined: u64, field: u64) -> bool
     (defined != 0) & bits::is_stray(defined, field)
 }
 
-// The lowest part at fault, 0 where none is: 1 the destination, 2 source 1, 3 source 2.
-fn lowest(destination: bool, source1: bool, source2: bool) -> u8
-    ensures { result ≡ lowest_part destination source1 source2 }
+// The lowest part that a test finds at fault, by a field's defined bits and the field: 1 the destination, 2 source 1, 3 source 2.
+fn lowest_part<F: Fn(u64, u64) -> bool>(raw: RawToken, is_at_fault: F) -> Option<u8>
+    requires { F.IsAlwaysCallable is_at_fault }
+    ensures { LowestPart (F.post is_at_fault) raw.shape raw.fields result }
+{
+    let RawToken { shape, fields } = raw;
+    lowest(
+        is_at_fault(
+            bits::destination_bits(shape.destination),
+            fields.destination,
+        ),
+        is_at_fault(bits::operand_bits(shape.source1), fields.source1),
+        is_at_fault(bits::operand_bits(shape.source2), fields.source2),
+    )
+}
+
+fn lowest(destination: bool, source1: bool, source2: bool) -> Option<u8>
+    ensures { result ≡ part_of (lowest_part destination source1 source2) }
 {
     if destination {
-        1
+        Some(1)
     } else if source1 {
-        2
+        Some(2)
     } else if source2 {
-        3
+        Some(3)
     } else {
-        0
+        None
     }
 }

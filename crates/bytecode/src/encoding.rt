@@ -14,7 +14,6 @@ pub fn encode(token: Token, out: &mut [u8]) -> Result<(), Refusal>
     if out.len() < 24 {
         return Err(refusals::refusal(23, 0, 0));
     }
-    let f = pack::pack_token(token);
-    fields::write_fields(f, out);
+    fields::write_fields(pack::pack_token(token), out);
     Ok(())
 }

@@ -8,6 +8,7 @@ use crate::stores;
 use layout::fields::Fields;
 
 // The fields of a token, from its bytes; all 0 where there are fewer than 24.
+#[tactic(auto, unfolding(crate::specs::computed::CleanFields::fields_in))]
 pub fn fields_of(bytes: &[u8]) -> Fields
     ensures { result ≡ fields_in bytes.now }
 {

@@ -1,25 +1,21 @@
 // Which records are encodable. A value is tested where its place is narrower than its type; a number, an offset, a swizzle and a bias always fit.
 ghost use Rattle.std.specs.Prelude.{◌≡◌, ◌&&◌, ltb};
-ghost use Rattle.bytecode.specs.Encode.{register_fits, destination_fits, sampler_fits, operand_fits, is_encodable};
+ghost use Rattle.bytecode.specs.Encode.{register_fits, destination_fits, source_fits, sampler_fits, operand_fits, is_encodable};
 
 use layout::opcodes;
 use layout::opcodes::OperandShape;
-use layout::record::{MaskedRegister, Operand, Sampler, Token};
+use layout::record::{DirectSource, MaskedRegister, Operand, Sampler, Token};
 
 // Whether encode, given room, writes a record.
+#[tactic(auto, unfolding(crate::specs::Encode::is_encodable))]
 pub fn encodable(token: Token) -> bool
     ensures { result ≡ is_encodable token }
 {
     let shape = opcodes::shape_of(token.opcode);
-    let destination = token.destination;
-    let source1 = token.source1;
-    let source2 = token.source2;
-    let shape1 = shape.source1;
-    let shape2 = shape.source2;
     shape.listed
-        & destination_fits(shape.destination, destination)
-        & operand_fits(shape1, source1)
-        & operand_fits(shape2, source2)
+        & destination_fits(shape.destination, token.destination)
+        & operand_fits(shape.source1, token.source1)
+        & operand_fits(shape.source2, token.source2)
 }
 
 fn destination_fits(used: bool, destination: Option<MaskedRegister>) -> bool
@@ -31,6 +27,7 @@ fn destination_fits(used: bool, destination: Option<MaskedRegister>) -> bool
     }
 }
 
+#[tactic(auto, unfolding(crate::specs::Encode::register_fits))]
 fn register_fits(register: MaskedRegister) -> bool
     ensures { result ≡ register_fits register }
 {
@@ -40,52 +37,23 @@ fn register_fits(register: MaskedRegister) -> bool
 fn operand_fits(shape: OperandShape, operand: Operand) -> bool
     ensures { result ≡ operand_fits shape operand }
 {
-    match shape {
-        OperandShape::Unused => is_unused(operand),
-        OperandShape::Source => is_source(operand),
-        OperandShape::Sampler => is_sampler(operand),
+    match (shape, operand) {
+        (OperandShape::Unused, Operand::Unused) => true,
+        (OperandShape::Source, Operand::Direct(s)) => source_fits(s),
+        (OperandShape::Source, Operand::Indexed(s)) => source_fits(s.into()),
+        (OperandShape::Sampler, Operand::Sampler(s)) => sampler_fits(s),
+        _ => false,
     }
 }
 
-fn is_unused(operand: Operand) -> bool
-    ensures { result ≡ operand_fits OperandShape.Unused operand }
+#[tactic(auto, unfolding(crate::specs::Encode::source_fits))]
+fn source_fits(s: DirectSource) -> bool
+    ensures { result ≡ source_fits s.number s.offset s.swizzle s.kind s.index_kind s.component }
 {
-    match operand {
-        Operand::Unused => true,
-        Operand::Direct(_) => false,
-        Operand::Indexed(_) => false,
-        Operand::Sampler(_) => false,
-    }
+    (s.kind < 16) & (s.index_kind < 16) & (s.component < 4)
 }
 
-fn is_source(operand: Operand) -> bool
-    ensures { result ≡ operand_fits OperandShape.Source operand }
-{
-    match operand {
-        Operand::Unused => false,
-        Operand::Direct(s) => source_fits(s.kind, s.index_kind, s.component),
-        Operand::Indexed(s) => source_fits(s.kind, s.index_kind, s.component),
-        Operand::Sampler(_) => false,
-    }
-}
-
-fn is_sampler(operand: Operand) -> bool
-    ensures { result ≡ operand_fits OperandShape.Sampler operand }
-{
-    match operand {
-        Operand::Unused => false,
-        Operand::Direct(_) => false,
-        Operand::Indexed(_) => false,
-        Operand::Sampler(s) => sampler_fits(s),
-    }
-}
-
-fn source_fits(kind: u8, index_kind: u8, component: u8) -> bool
-    ensures { result ≡ (ltb kind 16 && ltb index_kind 16 && ltb component 4) }
-{
-    (kind < 16) & (index_kind < 16) & (component < 4)
-}
-
+#[tactic(auto, unfolding(crate::specs::Encode::sampler_fits))]
 fn sampler_fits(s: Sampler) -> bool
     ensures { result ≡ sampler_fits s }
 {

@@ -1,132 +1,147 @@
 // Whether a token reads what is not written, from its fields and what its opcode holds.
 ghost use Rattle.std.specs.Prelude.{◌≡◌};
-ghost use Rattle.layout.specs.Records.{direct_of, indexed_of, source_of, destination_of, operand_of, token_of};
-ghost use Rattle.layout.specs.Opcodes.{row_count2};
+ghost use Rattle.layout.specs.Records.{direct_of, indexed_of, token_of};
 ghost use Rattle.components.specs.Reads.{mask_of, dimension_of};
-ghost use Rattle.components.specs.computed.Access.{lacks_access, lacks_some, selected_access, direct_access, index_access, access_through, components1_of, components2_of, access1_of, access2_of};
+ghost use Rattle.components.specs.computed.Access.{lacks_access, lacks_some, selected_access, index_access, access_of, shape_at, field_at, rows_at, components_at, direct_access_of};
 
-use crate::written;
 use crate::written::Written;
-use layout::fields::Fields;
+use layout::fields::{Fields, RawToken};
 use layout::opcodes::{OperandShape, Shape};
 use layout::selection;
 
-// Whether a token reads through source 1 a temporary component that is not written.
-pub fn reads_unwritten1(current: Written, shape: Shape, f: Fields) -> bool
-    ensures { result ≡ lacks_access current (access1_of (token_of shape f)) }
-{
-    let shape1 = shape.source1;
-    match shape1 {
-        OperandShape::Unused => false,
-        OperandShape::Source => source_unwritten1(current, shape, f),
-        OperandShape::Sampler => false,
-    }
+// One of a token's two sources.
+#[derive(Clone, Copy, Debug, PartialEq, Eq)]
+pub enum Source {
+    First,
+    Second,
 }
 
-fn source_unwritten1(current: Written, shape: Shape, f: Fields) -> bool
-    ensures { result ≡ lacks_access current (access_through 1 (components1_of (token_of shape f)) (source_of f.source1)) }
+// Whether a token reads through a source a temporary component that is not written. Callers name the source, so this is laid out for each
+// where it is called; as a call it takes twice as many instructions.
+#[tactic(auto, unfolding(layout::specs::Records::token_of))]
+#[inline(always)]
+pub fn reads_unwritten(current: Written, raw: RawToken, source: Source) -> bool
+    ensures { result ≡ lacks_access current (access_of source (token_of raw.shape raw.fields)) }
 {
-    if layout::is_indexed(f.source1) {
-        return index_unwritten(current, f.source1);
+    let field = source.field(raw.fields);
+    match source.shape(raw.shape) {
+        OperandShape::Source if layout::is_indexed(field) => current.lacks_index(field),
+        OperandShape::Source => direct_unwritten(current, raw, source),
+        OperandShape::Unused | OperandShape::Sampler => false,
     }
-    direct_unwritten1(current, shape, f)
 }
 
 // What the opcode reads is asked only where the register is a temporary one, and lacks something.
-fn direct_unwritten1(current: Written, shape: Shape, f: Fields) -> bool
-    ensures { result ≡ lacks_access current (direct_access 1 (components1_of (token_of shape f)) (direct_of f.source1)) }
+#[tactic(auto, unfolding(layout::specs::Records::token_of))]
+#[inline(always)]
+fn direct_unwritten(current: Written, raw: RawToken, source: Source) -> bool
+    ensures { result ≡ lacks_access current (direct_access_of source raw.shape raw.fields) }
 {
-    if !lacks_some(current, 1, f.source1) {
+    let field = source.field(raw.fields);
+    let rows = source.rows(raw.fields.opcode);
+    if !current.lacks_some(rows, field) {
         return false;
     }
-    let mask = mask_of(shape.destination, f.destination);
-    let shape2 = shape.source2;
-    let selectors = selection::selectors1(f.opcode, mask, dimension_of(shape2, f.source2));
-    let source = layout::unpack_direct(f.source1);
-    let components = selection::components_read(source.swizzle, selectors);
-    written::lacks(current, source.number, 1, components)
+    let direct = layout::unpack_direct(field);
+    current.lacks(direct.number, rows, source.components(raw, direct.swizzle))
 }
 
-// The same of source 2.
-pub fn reads_unwritten2(current: Written, shape: Shape, f: Fields) -> bool
-    ensures { result ≡ lacks_access current (access2_of (token_of shape f)) }
-{
-    let shape2 = shape.source2;
-    match shape2 {
-        OperandShape::Unused => false,
-        OperandShape::Source => source_unwritten2(current, shape, f),
-        OperandShape::Sampler => false,
+impl Source {
+    // What the opcode has there.
+    fn shape(self, shape: Shape) -> OperandShape
+        ensures { result ≡ shape_at self shape }
+    {
+        match self {
+            Source::First => shape.source1,
+            Source::Second => shape.source2,
+        }
+    }
+
+    fn field(self, fields: Fields) -> u64
+        ensures { result ≡ field_at self fields }
+    {
+        match self {
+            Source::First => fields.source1,
+            Source::Second => fields.source2,
+        }
+    }
+
+    // How many registers are read, from that of the source on.
+    fn rows(self, opcode: u32) -> u8
+        ensures { result ≡ rows_at self opcode }
+    {
+        match self {
+            Source::First => 1,
+            Source::Second => selection::rows2(opcode),
+        }
+    }
+
+    // The components that are read of each, by a swizzle.
+    #[tactic(auto, unfolding(layout::specs::Records::token_of))]
+    fn components(self, raw: RawToken, swizzle: u8) -> u8
+        ensures { result ≡ components_at self (token_of raw.shape raw.fields) swizzle }
+    {
+        let opcode = raw.fields.opcode;
+        match self {
+            Source::First => {
+                let selectors = selection::selectors1(opcode, mask_of(raw), dimension_of(raw));
+                selection::components_read(swizzle, selectors)
+            }
+            Source::Second => selection::components2(opcode, mask_of(raw), swizzle),
+        }
     }
 }
 
-fn source_unwritten2(current: Written, shape: Shape, f: Fields) -> bool
-    ensures { result ≡ lacks_access current (access_through (row_count2 f.opcode) (components2_of (token_of shape f)) (source_of f.source2)) }
+#[tactic(auto, unfolding(layout::specs::Records::token_of))]
+fn mask_of(raw: RawToken) -> u8
+    ensures { result ≡ mask_of (token_of raw.shape raw.fields).destination }
 {
-    if layout::is_indexed(f.source2) {
-        return index_unwritten(current, f.source2);
-    }
-    direct_unwritten2(current, shape, f)
-}
-
-fn direct_unwritten2(current: Written, shape: Shape, f: Fields) -> bool
-    ensures { result ≡ lacks_access current (direct_access (row_count2 f.opcode) (components2_of (token_of shape f)) (direct_of f.source2)) }
-{
-    let rows = selection::rows2(f.opcode);
-    if !lacks_some(current, rows, f.source2) {
-        return false;
-    }
-    let source = layout::unpack_direct(f.source2);
-    let mask = mask_of(shape.destination, f.destination);
-    let components = selection::components2(f.opcode, mask, source.swizzle);
-    written::lacks(current, source.number, rows, components)
-}
-
-// Whether a direct source is a temporary register that lacks a component which the selectors name.
-pub(crate) fn direct_lacks(current: Written, field: u64, selectors: u8) -> bool
-    ensures { result ≡ lacks_access current (selected_access selectors (direct_of field)) }
-{
-    let source = layout::unpack_direct(field);
-    let components = selection::named(source.swizzle, selectors);
-    (source.kind == 2) & written::lacks(current, source.number, 1, components)
-}
-
-// Whether a direct source is a temporary register and one of the rows from it lacks a component, read or not. If none does, which components
-// are read need not be asked.
-pub(crate) fn lacks_some(current: Written, rows: u8, field: u64) -> bool
-    ensures { result ≡ lacks_some current rows (direct_of field) }
-{
-    let source = layout::unpack_direct(field);
-    (source.kind == 2) & written::lacks(current, source.number, rows, selection::ALL_FOUR)
-}
-
-// An indexed source reads one component of its index register.
-pub(crate) fn index_unwritten(current: Written, field: u64) -> bool
-    ensures { result ≡ lacks_access current (index_access (indexed_of field)) }
-{
-    let source = layout::unpack_indexed(field);
-    let component = selection::chosen(1, source.component);
-    (source.index_kind == 2) & written::lacks(current, source.number, 1, component)
-}
-
-fn mask_of(used: bool, field: u64) -> u8
-    ensures { result ≡ mask_of (destination_of used field) }
-{
-    if used {
-        let register = layout::unpack_register(field);
+    if raw.shape.destination {
+        let register = layout::unpack_register(raw.fields.destination);
         return register.mask;
     }
     0
 }
 
-fn dimension_of(shape: OperandShape, field: u64) -> u8
-    ensures { result ≡ dimension_of (operand_of shape field) }
+#[tactic(auto, unfolding(layout::specs::Records::token_of))]
+fn dimension_of(raw: RawToken) -> u8
+    ensures { result ≡ dimension_of (token_of raw.shape raw.fields).source2 }
 {
-    match shape {
-        OperandShape::Unused => 0,
-        OperandShape::Source => 0,
+    match raw.shape.source2 {
         OperandShape::Sampler => {
-            let sampler = layout::unpack_sampler(field);
+            let sampler = layout::unpack_sampler(raw.fields.source2);
             sampler.dimension
         }
+        OperandShape::Unused | OperandShape::Source => 0,
+    }
+}
+
+impl Written {
+    // An indexed source reads one component of its index register.
+    pub(crate) fn lacks_index(self, field: u64) -> bool
+        ensures { result ≡ lacks_access self (index_access (indexed_of field)) }
+    {
+        let source = layout::unpack_indexed(field);
+        let component = selection::chosen(1, source.component);
+        (source.index_kind == 2) & self.lacks(source.number, 1, component)
+    }
+
+    // Whether a direct source is a temporary register that lacks a component which the selectors name.
+    pub(crate) fn lacks_direct(self, field: u64, selectors: u8) -> bool
+        ensures { result ≡ lacks_access self (selected_access selectors (direct_of field)) }
+    {
+        let source = layout::unpack_direct(field);
+        let components = selection::named(source.swizzle, selectors);
+        (source.kind == 2) & self.lacks(source.number, 1, components)
+    }
+
+    // Whether a direct source is a temporary register and one of the rows from it lacks a component, read or not. If none does, which
+    // components are read need not be asked.
+    #[tactic(auto, unfolding(crate::specs::computed::Access::lacks_some))]
+    pub(crate) fn lacks_some(self, rows: u8, field: u64) -> bool
+        ensures { result ≡ lacks_some self rows (direct_of field) }
+    {
+        let source = layout::unpack_direct(field);
+        (source.kind == 2) & self.lacks(source.number, rows, selection::ALL_FOUR)
     }
 }

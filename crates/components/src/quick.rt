@@ -1,10 +1,12 @@
 // Quick tests for lawful tokens, which have none of faults 9 to 19: whether such a token may read what is not written. Each says yes of every
 // token that does. Those of matrices and indexed sources ask for all four components, and so may say yes of one that does not.
-ghost use Rattle.std.specs.Prelude.{◌≡◌};
+// Each takes a set and a token's fields as they are: a struct of both would be made for one call and taken apart in it.
+ghost use Rattle.std.specs.Prelude.{◌≡◌, true, false};
+ghost use Rattle.layout.specs.Records.{is_indexed, indexed_of};
+ghost use Rattle.components.specs.computed.Access.{lacks_access, index_access};
 ghost use Rattle.components.specs.computed.QuickTests.{may_read_unwritten, matrix_may_read_unwritten, tex_may_read_unwritten, may_lack, indexed_may_read_unwritten, opener_lacks, opener_may_read_unwritten, kil_may_read_unwritten};
 ghost use Rattle.components.specs.computed.ReadsWritten.{OrdinaryReads, MatrixReads, TexReads, IndexedReads, OpenerReads, KilReads};
 
-use crate::access;
 use crate::written::Written;
 use layout::fields::Fields;
 use layout::selection;
@@ -14,14 +16,14 @@ use layout::selection;
 pub fn may_read_unwritten(current: Written, f: Fields) -> bool
     ensures { (result ≡ may_read_unwritten current f) × OrdinaryReads result current f }
 {
-    if !(access::lacks_some(current, 1, f.source1) | access::lacks_some(current, 1, f.source2)) {
+    if !(current.lacks_some(1, f.source1) | current.lacks_some(1, f.source2)) {
         return false;
     }
     let register = layout::unpack_register(f.destination);
     let first = selection::selectors1(f.opcode, register.mask, 0);
-    let first_lacks = access::direct_lacks(current, f.source1, first);
+    let first_lacks = current.lacks_direct(f.source1, first);
     let second = selection::selectors2(f.opcode, register.mask);
-    first_lacks | access::direct_lacks(current, f.source2, second)
+    first_lacks | current.lacks_direct(f.source2, second)
 }
 
 // The same of a matrix, whose rows of source 2 are asked for all four components.
@@ -30,8 +32,8 @@ pub fn matrix_may_read_unwritten(current: Written, f: Fields) -> bool
 {
     let register = layout::unpack_register(f.destination);
     let first = selection::selectors1(f.opcode, register.mask, 0);
-    access::direct_lacks(current, f.source1, first)
-        | access::lacks_some(current, selection::rows2(f.opcode), f.source2)
+    current.lacks_direct(f.source1, first)
+        | current.lacks_some(selection::rows2(f.opcode), f.source2)
 }
 
 // The same of tex, which reads through source 1 alone.
@@ -39,8 +41,7 @@ pub fn tex_may_read_unwritten(current: Written, f: Fields) -> bool
     ensures { (result ≡ tex_may_read_unwritten current f) × TexReads result current f }
 {
     let sampler = layout::unpack_sampler(f.source2);
-    let first = selection::coordinates(sampler.dimension);
-    access::direct_lacks(current, f.source1, first)
+    current.lacks_direct(f.source1, selection::coordinates(sampler.dimension))
 }
 
 // The same where a source may be indexed, of a matrix too. All components of a direct source's rows are asked for.
@@ -50,13 +51,23 @@ pub fn indexed_may_read_unwritten(current: Written, f: Fields) -> bool
     may_lack(current, 1, f.source1) | may_lack(current, selection::rows2(f.opcode), f.source2)
 }
 
+#[tactic(auto, unfolding(crate::specs::computed::QuickTests::may_lack))]
 fn may_lack(current: Written, rows: u8, field: u64) -> bool
     ensures { result ≡ may_lack current rows field }
 {
+    by_index_or(current, field, || current.lacks_some(rows, field))
+}
+
+// An indexed source is asked for its index register, and a direct one by the test.
+fn by_index_or<F: FnOnce() -> bool>(current: Written, field: u64, direct: F) -> bool
+    requires { F.IsAlwaysCallable direct }
+    ensures if_indexed { is_indexed field ≡ true → result ≡ lacks_access current (index_access (indexed_of field)) }
+    ensures if_direct { is_indexed field ≡ false → F.post direct result }
+{
     if layout::is_indexed(field) {
-        return access::index_unwritten(current, field);
+        return current.lacks_index(field);
     }
-    access::lacks_some(current, rows, field)
+    direct()
 }
 
 // The same of an opener, each of whose sources may be indexed; a direct one is read by all four selectors.
@@ -66,18 +77,18 @@ pub fn opener_may_read_unwritten(current: Written, f: Fields) -> bool
     opener_lacks(current, f.source1) | opener_lacks(current, f.source2)
 }
 
+#[tactic(auto, unfolding(crate::specs::computed::QuickTests::opener_lacks))]
 fn opener_lacks(current: Written, field: u64) -> bool
     ensures { result ≡ opener_lacks current field }
 {
-    if layout::is_indexed(field) {
-        return access::index_unwritten(current, field);
-    }
-    access::direct_lacks(current, field, selection::ALL_FOUR)
+    by_index_or(current, field, || {
+        current.lacks_direct(field, selection::ALL_FOUR)
+    })
 }
 
 // The same of kil, which reads by the first selector of source 1.
 pub fn kil_may_read_unwritten(current: Written, f: Fields) -> bool
     ensures { (result ≡ kil_may_read_unwritten current f) × KilReads result current f }
 {
-    access::direct_lacks(current, f.source1, selection::FIRST)
+    current.lacks_direct(f.source1, selection::FIRST)
 }

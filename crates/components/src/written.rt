@@ -3,42 +3,75 @@ ghost use Rattle.std.specs.Prelude.{cond, ◌≡◌, ◌*◌, ◌%◌, ◌^◌};
 ghost use Rattle.components.specs.computed.Written.{half_of, join_of, mark_of, lacks_row, lacks_of};
 
 // Four bits for each register, its lowest for x: registers 0 to 15 in the low half, 16 to 31 in the high one.
-#[derive(Clone, Copy)]
+#[derive(Clone, Copy, Debug, PartialEq, Eq)]
 pub struct Written {
     pub low: u64,
     pub high: u64,
 }
 
-// The same set, copied half by half. Copied at once, as sixteen bytes, it would often be read back before its two halves, which are stored one
-// by one, have arrived, and the processor would wait.
-pub fn by_halves(set: Written) -> Written
-    ensures { result ≡ set }
-{
-    Written {
-        low: set.low,
-        high: set.high,
-    }
-}
+impl Written {
+    // Nothing is written.
+    pub const EMPTY: Written = Written { low: 0, high: 0 };
 
-// What both sets have.
-pub fn join(a: Written, b: Written) -> Written
-    ensures { result ≡ join_of a b }
-{
-    Written {
-        low: a.low & b.low,
-        high: a.high & b.high,
+    // The same set, copied half by half. Copied at once, as sixteen bytes, it would often be read back before its two halves, which are stored
+    // one by one, have arrived, and the processor would wait: measured, so this takes the place of a plain copy where the check's loop stores.
+    pub fn by_halves(self) -> Written
+        ensures { result ≡ self }
+    {
+        Written {
+            low: self.low,
+            high: self.high,
+        }
     }
-}
 
-// A set with the components of a register's mask added. A register above 31 is not kept: no edition has one.
-pub fn mark(written: Written, register: u16, mask: u8) -> Written
-    ensures { result ≡ mark_of written register mask }
-{
-    let register = register as u32;
-    let bits = placed(register, mask);
-    Written {
-        low: written.low | only(register < 16, bits),
-        high: written.high | only((16 <= register) & (register < 32), bits),
+    // What both sets have.
+    pub fn join(self, other: Written) -> Written
+        ensures { result ≡ join_of self other }
+    {
+        Written {
+            low: self.low & other.low,
+            high: self.high & other.high,
+        }
+    }
+
+    // The set with the components of a register's mask added. A register above 31 is not kept: no edition has one.
+    pub fn mark(self, register: u16, mask: u8) -> Written
+        ensures { result ≡ mark_of self register mask }
+    {
+        let register = register as u32;
+        let bits = placed(register, mask);
+        Written {
+            low: self.low | only(register < 16, bits),
+            high: self.high | only((16 <= register) & (register < 32), bits),
+        }
+    }
+
+    // Whether one of `rows` registers, from `register` on, lacks one of the components.
+    pub fn lacks(self, register: u16, rows: u8, components: u8) -> bool
+        ensures { result ≡ lacks_of self register rows components }
+    {
+        let first = register as u32;
+        (first..first + rows as u32).any(|row| self.lacks_row(row, components))
+    }
+
+    // Whether a register lacks one of the components.
+    fn lacks_row(self, register: u32, components: u8) -> bool
+        ensures { result ≡ lacks_row self register components }
+    {
+        let asked = (components % 16) as u64;
+        let there = self.half_of(register) >> (register % 16 * 4);
+        (asked & there) != asked
+    }
+
+    // The half that a register is in; one above 31 has nothing written.
+    fn half_of(self, register: u32) -> u64
+        ensures { result ≡ half_of self register }
+    {
+        match register {
+            0..=15 => self.low,
+            16..=31 => self.high,
+            _ => 0,
+        }
     }
 }
 
@@ -54,41 +87,4 @@ fn only(chosen: bool, bits: u64) -> u64
     ensures { result ≡ cond chosen bits 0 }
 {
     if chosen { bits } else { 0 }
-}
-
-// Whether one of `rows` registers, from `register` on, lacks one of the components.
-pub fn lacks(written: Written, register: u16, rows: u8, components: u8) -> bool
-    ensures { result ≡ lacks_of written register rows components }
-{
-    let mut row = register as u32;
-    let end = row + rows as u32;
-    while row < end {
-        if lacks_row(written, row, components) {
-            return true;
-        }
-        row += 1;
-    }
-    false
-}
-
-// Whether a register lacks one of the components.
-fn lacks_row(written: Written, register: u32, components: u8) -> bool
-    ensures { result ≡ lacks_row written register components }
-{
-    let asked = (components % 16) as u64;
-    let there = half_of(written, register) >> (register % 16 * 4);
-    (asked & there) != asked
-}
-
-// The half that a register is in; one above 31 has nothing written.
-fn half_of(written: Written, register: u32) -> u64
-    ensures { result ≡ half_of written register }
-{
-    if register < 16 {
-        return written.low;
-    }
-    if register < 32 {
-        return written.high;
-    }
-    0
 }

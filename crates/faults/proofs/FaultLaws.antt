@@ -1,21 +1,23 @@
 -- The first fault of a token, stage by stage.
 -- Assumes nothing.
-use Prim.Native.Nat.{ℕ, zero, suc}
+use Prim.Native.Nat.{ℕ, suc}
 use mathlib.Core.Bool.{Bool, true, false, cond}
 use mathlib.Core.List.{List, [], ◌∷◌, ◌++◌}
 use mathlib.Core.Option.{Option, none, some, some-ne-none}
-use mathlib.Core.Path.{◌≡◌, refl, ◌∙◌, ap}
+use mathlib.Core.Path.{◌≡◌, refl, ◌∙◌, ap, sym}
 use lib.Dec.{eqb-suc-zero}
-use Rattle.bytecode.specs.Decode.{refusal}
+use Rattle.std.specs.Prelude.{Result, Ok, Err, ⊤}
+use Rattle.bytecode.specs.Decode.{refusal, outcome}
+use Rattle.bytecode.specs.declared.answers.Refusal.{Refusal}
 use Rattle.layout.specs.declared.record.Operand.{Operand}
 use Rattle.layout.specs.declared.record.Operand.TheVariants.{Unused as NoOperand, Direct, Indexed, Sampler as Sampled}
 use Rattle.layout.specs.declared.record.Token.{Token}
 use Rattle.paths.specs.Paths.{TokenFault}
 use Rattle.layout.specs.Opcodes.{row_count2}
-use Rattle.faults.specs.Rules.{destination_wrong, mask_wrong, indexed_wrong, direct_wrong, sampler_wrong}
+use Rattle.faults.specs.Rules.{destination_wrong, mask_wrong, indexed_wrong, direct_wrong, selectors_differ, matrix_swizzled, sampler_wrong}
 use Rattle.faults.specs.computed.Profile.{count_in}
 use Rattle.faults.specs.Order.{Rule, first_fault, source_rules}
-use Rattle.faults.specs.computed.Faults.{number_of, refusal_at, swizzle_wrong, sources_fault, record_fault}
+use Rattle.faults.specs.computed.Faults.{number_of, refusal_at, record_fault}
 use Rattle.faults.specs.declared.profile.Profile.{Profile}
 
 -- ---- no rule is broken
@@ -49,62 +51,59 @@ first_append (r ∷ rs) bs = go (first_append rs bs) r.broken
 
 -- ---- a source
 
--- a fault by its number, 0 for none, and its part
-abbrev pub with_part : ℕ → ℕ → Option TokenFault
-with_part zero p = none
-with_part (suc n) p = some (record { number = suc n; part = p })
-
-two : (a b : Bool) (m n p : ℕ) → cond a (some (record { number = suc m; part = p })) (cond b (some (record { number = suc n; part = p })) none) ≡ with_part (number_of (cond a (some (record { number = suc m; part = 0 })) (cond b (some (record { number = suc n; part = 0 })) none))) p
-two true b m n p = refl
-two false true m n p = refl
-two false false m n p = refl
+-- a source's fault by its number, at its part, or what comes later where it has none
+abbrev pub next : ℕ → ℕ → Result ⊤ ℕ → Result ⊤ Refusal → Result ⊤ Refusal
+next token part (Ok u) later = later
+next token part (Err n) later = Err (refusal n token part)
 
 -- one or two rules of a source, by their tests
-abbrev pub two_faults : Bool → ℕ → Bool → ℕ → Option TokenFault
-two_faults a x b y = cond a (some (record { number = x; part = 0 })) (cond b (some (record { number = y; part = 0 })) none)
-
-pub number_two : (a b : Bool) (x y : ℕ) → cond a x (cond b y 0) ≡ number_of (two_faults a x b y)
-number_two true b x y = refl
-number_two false true x y = refl
-number_two false false x y = refl
+two : (a b : Bool) (m n token part : ℕ) (later : Option TokenFault)
+    → outcome (refusal_at token (or_else (cond a (some (record { number = suc m; part = part })) (cond b (some (record { number = suc n; part = part })) none)) later))
+    ≡ next token part (number_of (cond a (some (record { number = suc m; part = 0 })) (cond b (some (record { number = suc n; part = 0 })) none))) (outcome (refusal_at token later))
+two true b m n token part later = rw (eqb-suc-zero m)
+two false true m n token part later = rw (eqb-suc-zero n)
+two false false m n token part later = refl
 
 -- the number of a source's fault does not depend on the part, and the part is the source's
-source_part : (count : ℕ → ℕ) (stage rows : ℕ) (swizzled : ℕ → Bool) (p : ℕ) (o : Operand)
-    → first_fault (source_rules count stage rows swizzled p o) ≡ with_part (number_of (first_fault (source_rules count stage rows swizzled 0 o))) p
-source_part count stage rows swizzled p NoOperand = refl
-source_part count stage rows swizzled p (Direct s) = two (direct_wrong count stage rows s) (swizzled s.swizzle) 16 17 p
-source_part count stage rows swizzled p (Indexed s) = two (indexed_wrong count stage rows s) (swizzled s.swizzle) 15 17 p
-source_part count stage rows swizzled p (Sampled s) = two (sampler_wrong count s) false 18 0 p
+source_next : (count : ℕ → ℕ) (stage rows : ℕ) (swizzled : ℕ → Bool) (token part : ℕ) (o : Operand) (later : Option TokenFault)
+    → outcome (refusal_at token (or_else (first_fault (source_rules count stage rows swizzled part o)) later))
+    ≡ next token part (number_of (first_fault (source_rules count stage rows swizzled 0 o))) (outcome (refusal_at token later))
+source_next count stage rows swizzled token part NoOperand later = refl
+source_next count stage rows swizzled token part (Direct s) later = two (direct_wrong count stage rows s) (swizzled s.swizzle) 16 17 token part later
+source_next count stage rows swizzled token part (Indexed s) later = two (indexed_wrong count stage rows s) (swizzled s.swizzle) 15 17 token part later
+source_next count stage rows swizzled token part (Sampled s) later = two (sampler_wrong count s) false 18 0 token part later
 
 -- ---- a record
 
-sources : (token x y : ℕ) → refusal_at token (or_else (with_part x 2) (with_part y 3)) ≡ sources_fault token x y
-sources token zero zero = refl
-sources token zero (suc y) = rw (eqb-suc-zero y)
-sources token (suc x) y = rw (eqb-suc-zero x)
-
 module _ (profile : Profile) (token : ℕ) (t : Token) where
-  abbrev pub fault1 : ℕ
-  fault1 = number_of (first_fault (source_rules (count_in profile) profile.stage 1 (swizzle_wrong false t.opcode) 0 t.source1))
+  abbrev source1 : ℕ → List Rule
+  source1 part = source_rules (count_in profile) profile.stage 1 (selectors_differ t.opcode) part t.source1
 
-  abbrev pub fault2 : ℕ
-  fault2 = number_of (first_fault (source_rules (count_in profile) profile.stage (row_count2 t.opcode) (swizzle_wrong true t.opcode) 0 t.source2))
+  abbrev source2 : ℕ → List Rule
+  source2 part = source_rules (count_in profile) profile.stage (row_count2 t.opcode) (matrix_swizzled t.opcode) part t.source2
 
-  both : first_fault (source_rules (count_in profile) profile.stage 1 (swizzle_wrong false t.opcode) 2 t.source1 ++ source_rules (count_in profile) profile.stage (row_count2 t.opcode) (swizzle_wrong true t.opcode) 3 t.source2) ≡ or_else (with_part fault1 2) (with_part fault2 3)
-  both =
-      first_append (source_rules (count_in profile) profile.stage 1 (swizzle_wrong false t.opcode) 2 t.source1) _
-      ∙ ap (λ a. or_else a (first_fault (source_rules (count_in profile) profile.stage (row_count2 t.opcode) (swizzle_wrong true t.opcode) 3 t.source2))) (source_part (count_in profile) profile.stage 1 (swizzle_wrong false t.opcode) 2 t.source1)
-      ∙ ap (λ b. or_else (with_part fault1 2) b) (source_part (count_in profile) profile.stage (row_count2 t.opcode) (swizzle_wrong true t.opcode) 3 t.source2)
+  or_none : (a : Option TokenFault) → or_else a none ≡ a
+  or_none none = refl
+  or_none (some f) = refl
 
-  pub staged : record_fault profile token t
-      ≡ cond (destination_wrong (count_in profile) profile.stage t.destination) (refusal 14 token 1)
-      (cond (mask_wrong t.opcode t.destination) (refusal 15 token 1) (sources_fault token fault1 fault2))
+  sources : outcome (refusal_at token (first_fault (source1 2 ++ source2 3))) ≡ next token 2 (number_of (first_fault (source1 0))) (next token 3 (number_of (first_fault (source2 0))) (Ok tt))
+  sources =
+      ap (λ f. outcome (refusal_at token f)) (first_append (source1 2) (source2 3))
+      ∙ source_next (count_in profile) profile.stage 1 (selectors_differ t.opcode) token 2 t.source1 (first_fault (source2 3))
+      ∙ ap (next token 2 (number_of (first_fault (source1 0))))
+      (ap (λ f. outcome (refusal_at token f)) (sym (or_none (first_fault (source2 3))))
+      ∙ source_next (count_in profile) profile.stage (row_count2 t.opcode) (matrix_swizzled t.opcode) token 3 t.source2 none)
+
+  pub staged : outcome (record_fault profile token t)
+      ≡ cond (destination_wrong (count_in profile) profile.stage t.destination) (Err (refusal 14 token 1))
+      (cond (mask_wrong t.opcode t.destination) (Err (refusal 15 token 1))
+      (next token 2 (number_of (first_fault (source1 0))) (next token 3 (number_of (first_fault (source2 0))) (Ok tt))))
   unfolding record_fault
   staged = go (destination_wrong (count_in profile) profile.stage t.destination) (mask_wrong t.opcode t.destination)
     where
       go : (a b : Bool)
-          → refusal_at token (cond a (some (record { number = 14; part = 1 })) (cond b (some (record { number = 15; part = 1 })) (first_fault (source_rules (count_in profile) profile.stage 1 (swizzle_wrong false t.opcode) 2 t.source1 ++ source_rules (count_in profile) profile.stage (row_count2 t.opcode) (swizzle_wrong true t.opcode) 3 t.source2))))
-          ≡ cond a (refusal 14 token 1) (cond b (refusal 15 token 1) (sources_fault token fault1 fault2))
+          → outcome (refusal_at token (cond a (some (record { number = 14; part = 1 })) (cond b (some (record { number = 15; part = 1 })) (first_fault (source1 2 ++ source2 3)))))
+          ≡ cond a (Err (refusal 14 token 1)) (cond b (Err (refusal 15 token 1)) (next token 2 (number_of (first_fault (source1 0))) (next token 3 (number_of (first_fault (source2 0))) (Ok tt))))
       go true b = refl
       go false true = refl
-      go false false = ap (refusal_at token) both ∙ sources token fault1 fault2
+      go false false = sources

@@ -1,13 +1,13 @@
 -- The token of a branch that the test tells as lawful has no fault of fields and none of faults 10 to 19, and reads what its fields tell.
 -- Assumes nothing.
 use Prim.Native.Nat.{ℕ}
-use mathlib.Core.Bool.{Bool, true, false, not, cond, ◌&&◌, false≢true}
+use mathlib.Core.Bool.{Bool, true, false, not, cond, ◌&&◌}
 use mathlib.Core.List.{◌++◌}
 use mathlib.Core.Path.{◌≡◌, refl, ◌∙◌, ap, sym, subst}
 use native.Mathlib.Omega.{arith}
 use lib.Dec.{eqb}
-use borrow.Author.Tests.{ne_eqb, eqb-true, eqb-false, not-true}
-use Rattle.laws.proofs.Every.{left, right}
+use borrow.Author.Tests.{ne_eqb, eqb-true, eqb-false, not-true, not-false}
+use Rattle.laws.proofs.Every.{both}
 use Rattle.layout.specs.Opcodes.{openers, bare_opcodes, is_fragment_only, is_matrix, is_opener, shape_of, flow_of}
 use Rattle.layout.specs.computed.Groups.{is_branch, source_shape}
 use Rattle.layout.specs.Records.{direct_of, token_of}
@@ -23,11 +23,9 @@ use Rattle.components.specs.computed.ReadsWritten.{ReadsWritten}
 use Rattle.components.specs.computed.Written.{component_set}
 use Rattle.components.specs.declared.written.Written.{Written}
 use Rattle.components.proofs.QuickLaws.{opener_reads}
-use Rattle.faults.specs.Rules.{opcode_too_new}
-use Rattle.faults.specs.computed.Profile.{profile_of}
-use Rattle.faults.specs.computed.Faults.{swizzle_wrong}
-use Rattle.faults.specs.computed.LawfulTests.{is_lawful_either, is_lawful_branch}
-use Rattle.faults.proofs.LawfulOpcodes.{no_stage, no_selectors}
+use Rattle.faults.specs.Rules.{opcode_too_new, matrix_swizzled}
+use Rattle.faults.specs.computed.LawfulTests.{is_lawful_either, is_lawful_branch, usable_of}
+use Rattle.faults.proofs.LawfulOpcodes.{if_no, no_stage, no_selectors}
 use Rattle.faults.proofs.LawfulOperands.{LawfulSource, no_destination, no_source, lawful_either}
 use Rattle.faults.proofs.LawfulToken.{ToldLawful, together}
 use Rattle.faults.proofs.UsableCounts.{usable_in}
@@ -61,7 +59,7 @@ module _ (edition stage : ℕ) (f : Fields) where
       let new : opcode_too_new edition o ≡ false = rw (ne_eqb edition 1 later) in
       let through = subst (λ n. LawfulSource edition stage (source_shape opener) n f.source2) (sym (one_row o (outside_matrices o matrix))) second in
       together edition stage f (source_shape opener) whole (no_destination edition stage o f.destination none) first branch new (no_stage edition stage o fragment) (no_selectors edition stage o fragment (direct_of f.source1).swizzle)
-      through.defined (through.right (swizzle_wrong true o) (ap (λ b. b && not (eqb (direct_of f.source2).swizzle 0xe4)) matrix)) Enough (branch_reads opener is whole)
+      through.defined (through.right (matrix_swizzled o) 3 (ap (λ b. b && not (eqb (direct_of f.source2).swizzle 0xe4)) matrix)) Enough (branch_reads opener is whole)
 
   -- the test of a source, by whether the token is an opener
   abbrev source : Bool → ℕ → Bool
@@ -76,21 +74,17 @@ module _ (edition stage : ℕ) (f : Fields) where
 
   when_branch : is_branch o ≡ true → (opener : Bool) → is_opener o ≡ opener → tests opener ≡ true → LawfulBranch
   when_branch branch opener is e =
-      let later = not (eqb edition 1) in
-      let none = eqb f.destination 0 in
-      let first = source opener f.source1 in
-      let second = source opener f.source2 in
-      let three = left (later && none && first) second e in
-      let two = left (later && none) first three in
+      let (three, second) = both _ _ e in
+      let (two, first) = both _ _ three in
+      let (later, unwritten) = both _ _ two in
       by_shape branch opener is (branch_shape_lem o branch ∙ ap branch_shape is)
-      (eqb-false edition 1 (not-true (eqb edition 1) (left later none two))) (eqb-true f.destination 0 (right later none two))
-      (lawful_source opener f.source1 (right (later && none) first three)) (lawful_source opener f.source2 (right (later && none && first) second e))
+      (eqb-false edition 1 (not-true (eqb edition 1) later)) (eqb-true f.destination 0 unwritten)
+      (lawful_source opener f.source1 first) (lawful_source opener f.source2 second)
 
-  pub lawful_branch : is_lawful_branch (profile_of edition stage) (usable_in edition stage) f ≡ true → LawfulBranch
-  unfolding is_lawful_branch
-  lawful_branch e = go (is_branch o) (is_opener o) refl refl e
+  pub lawful_branch : is_lawful_branch (usable_in edition stage) f ≡ true → LawfulBranch
+  unfolding is_lawful_branch usable_of
+  lawful_branch e = let (h, k) = if_no _ _ e in go (not-false _ h) (is_opener o) refl k
     where
-      go : (b opener : Bool) → is_branch o ≡ b → is_opener o ≡ opener → cond (not b) false (cond opener (tests true) (tests false)) ≡ true → LawfulBranch
-      go true true l is k = when_branch l true is k
-      go true false l is k = when_branch l false is k
-      go false opener l is k = absurd (false≢true k)
+      go : is_branch o ≡ true → (opener : Bool) → is_opener o ≡ opener → cond opener (tests true) (tests false) ≡ true → LawfulBranch
+      go branch true is k = when_branch branch true is k
+      go branch false is k = when_branch branch false is k

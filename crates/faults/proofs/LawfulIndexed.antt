@@ -2,12 +2,12 @@
 -- tell.
 -- Assumes nothing.
 use Prim.Native.Nat.{ℕ}
-use mathlib.Core.Bool.{Bool, true, false, not, cond, ◌&&◌, ◌||◌, false≢true}
-use mathlib.Core.Path.{◌≡◌, refl, ◌∙◌, ap, sym}
+use mathlib.Core.Bool.{Bool, true, false, not, ◌&&◌, ◌||◌}
+use mathlib.Core.Path.{◌≡◌, refl, ◌∙◌}
 use native.Mathlib.Omega.{arith}
 use lib.Dec.{eqb}
 use borrow.Author.Tests.{not-false}
-use Rattle.laws.proofs.Every.{left, right}
+use Rattle.laws.proofs.Every.{both}
 use Rattle.layout.specs.Layout as layout
 use Rattle.layout.specs.Layout.{value_of}
 use Rattle.layout.specs.Opcodes.{shape_of, row_count2}
@@ -17,11 +17,11 @@ use Rattle.layout.specs.computed.Sets.{among_of, ordinary_set}
 use Rattle.layout.proofs.OpcodeLists.{many_rows}
 use Rattle.components.specs.computed.QuickTests.{indexed_may_read_unwritten}
 use Rattle.components.proofs.QuickLaws.{indexed_reads}
-use Rattle.faults.specs.computed.LawfulTests.{is_source, is_lawful_destination, is_lawful_either, is_lawful_indexed}
-use Rattle.faults.proofs.LawfulOpcodes.{LawfulOpcode, ordinary_opcode, matrix_opcode}
+use Rattle.faults.specs.computed.LawfulTests.{is_source, is_lawful_destination, is_lawful_either, is_lawful_indexed, usable_of}
+use Rattle.faults.proofs.LawfulOpcodes.{if_no, LawfulOpcode, ordinary_opcode, matrix_opcode}
 use Rattle.faults.proofs.LawfulOperands.{lawful_destination, lawful_either}
 use Rattle.faults.proofs.LawfulToken.{LawfulToken, by_opcode}
-use Rattle.faults.proofs.UsableCounts.{usable_in, usable_opcodes}
+use Rattle.faults.proofs.UsableCounts.{usable_in}
 
 module _ (edition stage : ℕ) (f : Fields) where
   abbrev o : ℕ
@@ -41,12 +41,13 @@ module _ (edition stage : ℕ) (f : Fields) where
 
   when_indexed : LawfulOpcode edition stage o → (destination && first && second && unswizzled) ≡ true → LawfulToken edition stage indexed_may_read_unwritten f
   when_indexed rules e =
-      let three = left (destination && first && second) unswizzled e in
-      let both = left (destination && first) second three in
-      let into = lawful_destination edition stage o f.destination (left destination first both) in
-      let from = lawful_either edition stage 1 f.source1 (omega arith) Source refl (right destination first both) in
-      let through = lawful_either edition stage (row_count2 o) f.source2 rules.rows (shape_of o).source2 rules.shape.1 (right (destination && first) second three) in
-      by_opcode edition stage f rules into from through (right (destination && first && second) unswizzled e) indexed_may_read_unwritten (λ s l. indexed_reads s f l rules.kind)
+      let (three, plain) = both _ _ e in
+      let (two, used) = both _ _ three in
+      let (writes, reads) = both _ _ two in
+      let into = lawful_destination edition stage o f.destination writes in
+      let from = lawful_either edition stage 1 f.source1 (omega arith) Source refl reads in
+      let through = lawful_either edition stage (row_count2 o) f.source2 rules.rows (shape_of o).source2 rules.shape.1 used in
+      by_opcode edition stage f rules into from through plain indexed_may_read_unwritten (λ s l. indexed_reads s f l rules.kind)
 
   -- the opcode is an ordinary one, or that of a matrix
   opcode_known : (one known : Bool) → eqb (row_count2 o) 1 ≡ one → among_of (ordinary_set edition) o ≡ known → (one && not known) ≡ false → LawfulOpcode edition stage o
@@ -54,9 +55,5 @@ module _ (edition stage : ℕ) (f : Fields) where
   opcode_known false known a b e = matrix_opcode edition stage o (many_rows o a)
 
   pub lawful_indexed : is_lawful_indexed (usable_in edition stage) f ≡ true → LawfulToken edition stage indexed_may_read_unwritten f
-  unfolding is_lawful_indexed
-  lawful_indexed e = go (eqb (row_count2 o) 1 && not (among_of (ordinary_set edition) o)) refl (ap (λ set. cond (eqb (row_count2 o) 1 && not (among_of set o)) false (destination && first && second && unswizzled)) (sym (usable_opcodes edition stage)) ∙ e)
-    where
-      go : (b : Bool) → (eqb (row_count2 o) 1 && not (among_of (ordinary_set edition) o)) ≡ b → cond b false (destination && first && second && unswizzled) ≡ true → LawfulToken edition stage indexed_may_read_unwritten f
-      go true l k = absurd (false≢true k)
-      go false l k = when_indexed (opcode_known _ _ refl refl l) k
+  unfolding is_lawful_indexed usable_of
+  lawful_indexed e = let (h, k) = if_no _ _ e in when_indexed (opcode_known _ _ refl refl h) k

@@ -17,12 +17,14 @@ use Rattle.components.specs.declared.written.Written.{Written}
 use Rattle.registers.specs.Counts.{count_of}
 use Rattle.faults.specs.computed.Faults.{refusal_at}
 use Rattle.faults.specs.Lawful.{Lawful}
-use Rattle.faults.specs.computed.LawfulTests.{LawfulWith, LawfulUnder, usable_of}
+use Rattle.faults.specs.computed.LawfulTests.{is_lawful, is_lawful_matrix, is_lawful_tex, is_lawful_kil, is_lawful_indexed, is_lawful_branch, LawfulWith}
 use Rattle.bytecode.specs.Fields.{record_of}
 use Rattle.faults.specs.computed.Profile.{profile_of}
 use Rattle.faults.specs.declared.lawful.Usable.{Usable}
-use Rattle.faults.specs.declared.profile.Profile.{Profile}
-use Rattle.faults.proofs.LawfulToken.{NoOwnFault, ToldLawful}
+use Rattle.faults.proofs.LawfulToken.{NoOwnFault, ToldLawful, lawful, lawful_matrix, lawful_tex}
+use Rattle.faults.proofs.LawfulIndexed.{lawful_indexed}
+use Rattle.faults.proofs.LawfulKil.{lawful_kil}
+use Rattle.faults.proofs.LawfulBranch.{lawful_branch}
 use Rattle.faults.proofs.OwnFault.{token_numbered, taken_fault}
 use Rattle.faults.proofs.UsableCounts.{usable_in}
 
@@ -41,13 +43,26 @@ none_broken edition stage f p s h e =
     no_rule _ (λ f k. (token_numbered (λ k. count_of k edition stage) edition stage s f k).0)
     ((taken_fault edition stage 0 s h (record_of s) (sym taken.answer)).1 ∙ right-here 0)
 
--- by a test: `law` is what it is proved to tell
-module _ (f : Fields) where
-  pub told_with : (test : Usable → Bool) → ((edition stage : ℕ) → test (usable_in edition stage) ≡ true → Lawful edition stage f)
-      → (usable : Usable) (r : Bool) → r ≡ test usable → (r ≡ test usable) × (r ≡ true → LawfulWith usable f)
-  told_with test law usable r e = (e, λ yes edition stage of. law edition stage (ap test (sym of) ∙ sym e ∙ yes))
+-- so what a test tells of the fields in an edition and a stage, it tells wherever they are usable
+told : (test : Usable → Bool) (f : Fields) → ((edition stage : ℕ) → test (usable_in edition stage) ≡ true → Lawful edition stage f)
+    → (usable : Usable) → test usable ≡ true → LawfulWith usable f
+unfolding LawfulWith
+told test f law usable e edition stage of = law edition stage (ap test (sym of) ∙ e)
 
-  pub told_under : (test : Profile → Usable → Bool) → ((edition stage : ℕ) → test (profile_of edition stage) (usable_in edition stage) ≡ true → Lawful edition stage f)
-      → (profile : Profile) (usable : Usable) (r : Bool) → r ≡ test profile usable → (r ≡ test profile usable) × (r ≡ true → LawfulUnder profile usable f)
-  told_under test law profile usable r e =
-      (e, λ yes edition stage of used. law edition stage (ap (λ u. test (profile_of edition stage) u) (sym (used ∙ ap usable_of of)) ∙ ap (λ p. test p usable) (sym of) ∙ sym e ∙ yes))
+pub means_lawful : (u : Usable) (f : Fields) → is_lawful u f ≡ true → LawfulWith u f
+means_lawful u f = told (λ u. is_lawful u f) f (λ edition stage e. none_broken edition stage f (lawful edition stage f e)) u
+
+pub matrix_means_lawful : (u : Usable) (f : Fields) → is_lawful_matrix u f ≡ true → LawfulWith u f
+matrix_means_lawful u f = told (λ u. is_lawful_matrix u f) f (λ edition stage e. none_broken edition stage f (lawful_matrix edition stage f e)) u
+
+pub tex_means_lawful : (u : Usable) (f : Fields) → is_lawful_tex u f ≡ true → LawfulWith u f
+tex_means_lawful u f = told (λ u. is_lawful_tex u f) f (λ edition stage e. none_broken edition stage f (lawful_tex edition stage f e)) u
+
+pub kil_means_lawful : (u : Usable) (f : Fields) → is_lawful_kil u f ≡ true → LawfulWith u f
+kil_means_lawful u f = told (λ u. is_lawful_kil u f) f (λ edition stage e. none_broken edition stage f (lawful_kil edition stage f e)) u
+
+pub indexed_means_lawful : (u : Usable) (f : Fields) → is_lawful_indexed u f ≡ true → LawfulWith u f
+indexed_means_lawful u f = told (λ u. is_lawful_indexed u f) f (λ edition stage e. none_broken edition stage f (lawful_indexed edition stage f e)) u
+
+pub branch_means_lawful : (u : Usable) (f : Fields) → is_lawful_branch u f ≡ true → LawfulWith u f
+branch_means_lawful u f = told (λ u. is_lawful_branch u f) f (λ edition stage e. none_broken edition stage f (lawful_branch edition stage f e)) u

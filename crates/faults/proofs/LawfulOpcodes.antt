@@ -1,7 +1,7 @@
 -- Ordinary opcodes and matrices: which rules they have nothing to do with.
 -- Assumes nothing.
 use Prim.Native.Nat.{ℕ, ◌≤◌}
-use mathlib.Core.Bool.{Bool, true, false, not, ◌&&◌, ◌||◌, and-false, or-true}
+use mathlib.Core.Bool.{Bool, true, false, not, cond, false≢true, ◌&&◌, ◌||◌, and-false, or-true}
 use mathlib.Core.List.{[], ◌∷◌}
 use mathlib.Core.Path.{◌≡◌, refl, ◌∙◌, ap, sym, subst}
 use native.Mathlib.Omega.{arith}
@@ -14,8 +14,16 @@ use Rattle.layout.specs.computed.Sets.{among_of, ordinary_set}
 use Rattle.layout.specs.Swizzles.{selectors_agree}
 use Rattle.layout.proofs.OpcodeLists.{each, none_of, FirstShape, is_ordinary_lem, ordinary_shape, matrix_shape}
 use Rattle.layout.proofs.OpcodeSets.{in_ordinary, one_row, outside_matrices}
-use Rattle.faults.specs.Rules.{opcode_too_new, opcode_not_for_stage}
-use Rattle.faults.specs.computed.Faults.{swizzle_wrong}
+use Rattle.faults.specs.Rules.{opcode_too_new, opcode_not_for_stage, selectors_differ, matrix_swizzled}
+
+-- a test that is asked only where another one says yes, or only where it says no
+pub if_yes : (b x : Bool) → cond b x false ≡ true → (b ≡ true) × (x ≡ true)
+if_yes true x e = (refl, e)
+if_yes false x e = absurd (false≢true e)
+
+pub if_no : (b x : Bool) → cond b false x ≡ true → (b ≡ false) × (x ≡ true)
+if_no true x e = absurd (false≢true e)
+if_no false x e = (refl, e)
 
 -- what is known of an ordinary opcode, and of a matrix with a source 2 that is not swizzled
 pub record LawfulOpcode (edition stage o : ℕ) : Type 0 where
@@ -25,8 +33,8 @@ pub record LawfulOpcode (edition stage o : ℕ) : Type 0 where
   pub new : opcode_too_new edition o ≡ false
   pub for_stage : opcode_not_for_stage stage o ≡ false
   pub rows : 1 ≤ row_count2 o
-  pub swizzle1 : (z : ℕ) → swizzle_wrong false o z ≡ false
-  pub swizzle2 : (z : ℕ) → (eqb (row_count2 o) 1 || eqb z 0xe4) ≡ true → swizzle_wrong true o z ≡ false
+  pub swizzle1 : (z : ℕ) → selectors_differ o z ≡ false
+  pub swizzle2 : (z : ℕ) → (eqb (row_count2 o) 1 || eqb z 0xe4) ≡ true → matrix_swizzled o z ≡ false
 
 -- the stage that has every opcode, kil among them
 abbrev pub is_fragment : ℕ → Bool
@@ -45,7 +53,7 @@ module _ (edition stage o : ℕ) where
   pub no_stage : is_fragment_only o ≡ false → opcode_not_for_stage stage o ≡ false
   no_stage e = ap (λ b. eqb stage 0 && b) e ∙ and-false (eqb stage 0)
 
-  pub no_selectors : is_fragment_only o ≡ false → (z : ℕ) → swizzle_wrong false o z ≡ false
+  pub no_selectors : is_fragment_only o ≡ false → (z : ℕ) → selectors_differ o z ≡ false
   no_selectors e z = ap (λ b. b && not (selectors_agree z)) (neither (eqb o kil) (is_in o (tex ∷ [])) e).0
 
   pub known_ordinary : among_of (ordinary_set edition) o ≡ true → is_ordinary o ≡ true
@@ -80,5 +88,5 @@ module _ (edition stage o : ℕ) where
         swizzle2 = λ z u. unswizzled z (eqb-true z 0xe4 (ap (λ b. b || eqb z 0xe4) (sym (none_of matrix_opcodes (λ o. eqb (row_count2 o) 1) tt o m)) ∙ u));
       }
     where
-      unswizzled : (z : ℕ) → z ≡ 0xe4 → swizzle_wrong true o z ≡ false
-      unswizzled z e = ap (swizzle_wrong true o) e ∙ and-false (is_matrix o)
+      unswizzled : (z : ℕ) → z ≡ 0xe4 → matrix_swizzled o z ≡ false
+      unswizzled z e = ap (matrix_swizzled o) e ∙ and-false (is_matrix o)

@@ -1,12 +1,13 @@
 -- Operands that the tests tell as lawful break no rule.
 -- Assumes nothing.
 use Prim.Native.Nat.{ℕ, ◌≤◌, ◌+◌, ◌-◌, ◌<◌}
-use mathlib.Core.Bool.{Bool, true, false, not, cond, ◌&&◌, true≢false, false≢true}
+use mathlib.Core.Bool.{Bool, true, false, cond, ◌&&◌, true≢false, false≢true}
+use mathlib.Core.Option.{none}
 use mathlib.Core.Path.{◌≡◌, refl, ◌∙◌, ap, sym, subst}
 use native.Mathlib.Omega.{arith}
-use lib.Dec.{eqb, ltb, leb}
+use lib.Dec.{eqb, ltb}
 use borrow.Author.Tests.{eq-eqb, lt-leb, le-ltb, ltb-true, leb-true, not-true}
-use Rattle.laws.proofs.Every.{left, right}
+use Rattle.laws.proofs.Every.{both}
 use Rattle.layout.specs.Layout as layout
 use Rattle.layout.specs.Layout.{value_of, is_stray, destination_bits, operand_bits}
 use Rattle.layout.specs.Records.{is_indexed, direct_of, indexed_of, source_of, operand_of, destination_of}
@@ -21,8 +22,7 @@ use Rattle.registers.specs.Uses.{is_readable, is_writable}
 use Rattle.faults.specs.Rules.{destination_wrong, mask_wrong, direct_wrong, indexed_wrong}
 use Rattle.faults.specs.computed.Profile.{profile_of, count_in}
 use Rattle.faults.specs.Order.{first_fault, source_rules}
-use Rattle.faults.specs.computed.Faults.{number_of}
-use Rattle.faults.specs.computed.LawfulTests.{count_at, is_source, lawful_source_bits, is_lawful_destination, is_lawful_source, is_rightly_indexed, is_lawful_either}
+use Rattle.faults.specs.computed.LawfulTests.{is_source, lawful_source_bits, is_lawful_destination, is_lawful_source, is_rightly_indexed, is_lawful_either}
 use Rattle.faults.specs.declared.profile.Profile.{Profile}
 use Rattle.faults.proofs.Counts.{counts_are}
 use Rattle.faults.proofs.UsableCounts.{usable_in, if_used, is_index, readable_counts, writable_counts, indexing_counts}
@@ -30,24 +30,24 @@ use Rattle.faults.proofs.UsableCounts.{usable_in, if_used, is_index, readable_co
 -- no rule of an operand of so many rows, where 18 is not broken
 abbrev NoSourceFault : Profile → ℕ → ℕ → Operand → Type 0
 NoSourceFault profile rows field o =
-    (swizzled : ℕ → Bool) → swizzled (direct_of field).swizzle ≡ false
-    → number_of (first_fault (source_rules (count_in profile) profile.stage rows swizzled 0 o)) ≡ 0
+    (swizzled : ℕ → Bool) (part : ℕ) → swizzled (direct_of field).swizzle ≡ false
+    → first_fault (source_rules (count_in profile) profile.stage rows swizzled part o) ≡ none
 
 module _ (p : Profile) (rows field : ℕ) where
   right_direct : is_indexed field ≡ false → direct_wrong (count_in p) p.stage rows (direct_of field) ≡ false → NoSourceFault p rows field (source_of field)
-  right_direct i d swizzled h = ap (λ o. number_of (first_fault (source_rules (count_in p) p.stage rows swizzled 0 o))) (direct_source field i) ∙ simp (d, h)
+  right_direct i d swizzled part h = ap (λ o. first_fault (source_rules (count_in p) p.stage rows swizzled part o)) (direct_source field i) ∙ simp (d, h)
 
   right_indexed : is_indexed field ≡ true → indexed_wrong (count_in p) p.stage rows (indexed_of field) ≡ false → NoSourceFault p rows field (source_of field)
-  right_indexed i d swizzled h = ap (λ o. number_of (first_fault (source_rules (count_in p) p.stage rows swizzled 0 o))) (indexed_source field i) ∙ simp (d, h)
+  right_indexed i d swizzled part h = ap (λ o. first_fault (source_rules (count_in p) p.stage rows swizzled part o)) (indexed_source field i) ∙ simp (d, h)
 
 -- a field of bits without D is not indexed
 not_indexed : (bits field : ℕ) → value_of layout.indirect bits ≡ 0 → is_stray bits field ≡ false → is_indexed field ≡ false
-not_indexed bits field none stray = rw (eq-eqb (value_of layout.indirect field) 0 (omega (arith, none, value_within layout.indirect bits field stray)))
+not_indexed bits field direct stray = rw (eq-eqb (value_of layout.indirect field) 0 (omega (arith, direct, value_within layout.indirect bits field stray)))
 
 -- so a source that is told as direct, or as not used, is not
 pub is_direct : (readable : ℕ) (used : Bool) (rows field : ℕ) → is_lawful_source readable used rows field ≡ true → is_indexed field ≡ false
 unfolding is_lawful_source
-is_direct readable used rows field e = go used (not-true (is_stray (lawful_source_bits used) field) (left (not (is_stray (lawful_source_bits used) field)) _ e))
+is_direct readable used rows field e = go used (not-true _ (both _ _ e).0)
   where
     go : (used : Bool) → is_stray (lawful_source_bits used) field ≡ false → is_indexed field ≡ false
     go true stray = not_indexed (lawful_source_bits true) field refl stray
@@ -83,18 +83,15 @@ module _ (edition stage : ℕ) where
   unfolding is_lawful_destination
   lawful_destination opcode field e =
       let kind = value_of layout.masked_kind field in
-      let number = value_of layout.number field in
-      let wrong = mask_wrong opcode (destination_of true field) in
-      let kept = not (is_stray 0x070fffff field) in
-      let low = ltb number (count_at (usable_in edition stage).writable kind) in
-      let both = left (kept && low) (not wrong) e in
-      let stray = not-true (is_stray 0x070fffff field) (left kept low both) in
+      let (two, masked) = both _ _ e in
+      let (kept, low) = both _ _ two in
+      let stray = not-true _ kept in
       let small = value_within layout.masked_kind 0x070fffff field stray in
-      let (u, l) = counted is_writable number (count_at (usable_in edition stage).writable kind) kind (writable_counts edition stage kind (omega (arith, small))) (ltb-true number _ (right kept low both)) in
+      let (u, l) = counted is_writable _ _ kind (writable_counts edition stage kind (omega (arith, small))) (ltb-true _ _ low) in
       record {
         defined = wider 0x070fffff (destination_bits true) field refl stray;
-        right = rw (u, lt-leb (count_in profile kind) number l);
-        mask = not-true wrong (right (kept && low) (not wrong) e);
+        right = rw (u, lt-leb (count_in profile kind) (value_of layout.number field) l);
+        mask = not-true _ masked;
       }
 
   -- fields that are not used, and are 0
@@ -102,19 +99,19 @@ module _ (edition stage : ℕ) where
   no_destination opcode field e = record { defined = ap (is_stray 0) e; right = refl; mask = refl }
 
   pub no_source : (rows field : ℕ) → field ≡ 0 → LawfulSource Unused rows field
-  no_source rows field e = record { defined = ap (is_stray 0) e; right = λ swizzled h. refl }
+  no_source rows field e = record { defined = ap (is_stray 0) e; right = λ swizzled part h. refl }
 
   -- a source that is used, of one row or more
   pub lawful_direct : (rows field : ℕ) → 1 ≤ rows → is_lawful_source (usable_in edition stage).readable true rows field ≡ true → LawfulSource Source rows field
   unfolding is_lawful_source
   lawful_direct rows field some e =
-      let stray = not-true (is_stray (lawful_source_bits true) field) (left (not (is_stray (lawful_source_bits true) field)) _ e) in
       let kind = value_of layout.kind field in
       let number = value_of layout.number field in
+      let (kept, fits) = both _ _ e in
+      let stray = not-true _ kept in
       let small = value_within layout.kind (lawful_source_bits true) field stray in
       let no-offset = value_within layout.offset (lawful_source_bits true) field stray in
-      let within = leb-true (number + rows) (count_at (usable_in edition stage).readable kind) (right (not (is_stray (lawful_source_bits true) field)) _ e) in
-      let (u, l) = counted is_readable (number + (rows - 1)) (count_at (usable_in edition stage).readable kind) kind (readable_counts edition stage kind (omega (arith, small))) (omega (arith, within, some)) in
+      let (u, l) = counted is_readable (number + (rows - 1)) _ kind (readable_counts edition stage kind (omega (arith, small))) (omega (arith, leb-true _ _ fits, some)) in
       let d : direct_wrong (count_in profile) stage rows (direct_of field) ≡ false = rw (u, le-ltb (count_in profile kind) (number + rows) (omega (arith, l, some)), eq-eqb (value_of layout.offset field) 0 (omega (arith, no-offset))) in
       let i = not_indexed (lawful_source_bits true) field refl stray in
       record {
@@ -127,8 +124,8 @@ module _ (edition stage : ℕ) where
   unfolding is_lawful_source
   lawful_unused rows field e =
       record {
-        defined = not-true (is_stray 0 field) (left (not (is_stray 0 field)) true e);
-        right = λ swizzled h. refl;
+        defined = not-true _ (both _ _ e).0;
+        right = λ swizzled part h. refl;
       }
 
   pub lawful_second : (shape : OperandShape) (field : ℕ) → is_sampler shape ≡ false → is_lawful_source (usable_in edition stage).readable (is_source shape) 1 field ≡ true → LawfulSource shape 1 field
@@ -154,22 +151,19 @@ module _ (edition stage : ℕ) where
     lawful_indexed : is_indexed field ≡ true → is_rightly_indexed (usable_in edition stage) rows field ≡ true → LawfulSource Source rows field
     unfolding is_rightly_indexed
     lawful_indexed i e =
-        let kept = not (is_stray indexed_bits field) in
-        let constant = eqb (value_of layout.kind field) 1 in
-        let low = ltb number (count_at (usable_in edition stage).indexing kind) in
-        let within = leb (offset + rows) (count_at (usable_in edition stage).readable 1) in
-        let three = left (kept && constant && low) within e in
-        let two = left (kept && constant) low three in
-        let stray = not-true (is_stray indexed_bits field) (left kept constant two) in
+        let (three, within) = both _ _ e in
+        let (two, low) = both _ _ three in
+        let (kept, constant) = both _ _ two in
+        let stray = not-true _ kept in
         let small = value_within layout.index_kind indexed_bits field stray in
-        let end = leb-true (offset + rows) (count_at (usable_in edition stage).readable 1) (right (kept && constant && low) within e) in
-        let (index, below) = counted is_index number (count_at (usable_in edition stage).indexing kind) kind (indexing_counts edition stage kind (omega (arith, small))) (ltb-true number _ (right (kept && constant) low three)) in
-        let (_, room) = counted is_readable (offset + (rows - 1)) (count_at (usable_in edition stage).readable 1) 1 (readable_counts edition stage 1 (omega arith)) (omega (arith, end, some)) in
+        let (index, below) = counted is_index number _ kind (indexing_counts edition stage kind (omega (arith, small))) (ltb-true _ _ low) in
+        let (vertex, three-kinds) = both (eqb stage 0) (ltb kind 3) index in
+        let (_, room) = counted is_readable (offset + (rows - 1)) _ 1 (readable_counts edition stage 1 (omega arith)) (omega (arith, leb-true _ _ within, some)) in
         let d : indexed_wrong (count_in profile) stage rows (indexed_of field) ≡ false =
         rw (
-          left (eqb stage 0) (ltb kind 3) index,
-          right kept constant two,
-          le-ltb 2 kind (omega (arith, ltb-true kind 3 (right (eqb stage 0) (ltb kind 3) index))),
+          vertex,
+          constant,
+          le-ltb 2 kind (omega (arith, ltb-true kind 3 three-kinds)),
           lt-leb (count_in profile kind) number below,
           le-ltb (count_in profile 1) (offset + rows) (omega (arith, room, some)),
         ) in

@@ -9,27 +9,17 @@ use native.Mathlib.Omega.{arith}
 use lib.Dec.{T, eqb, ltb, eqb→eq}
 use Rattle.laws.specs.computed.Tests.{every}
 use Rattle.laws.proofs.Every.{below}
-use Rattle.layout.specs.computed.Sets.{ordinary_set}
 use Rattle.registers.specs.Counts.{count_of}
 use Rattle.registers.specs.Uses.{is_readable, is_writable}
 use Rattle.registers.proofs.Outside.{outside_edition, outside_stage}
 use Rattle.registers.proofs.Packed.{none_packed}
-use Rattle.faults.specs.computed.Profile.{profile_of}
-use Rattle.faults.specs.computed.LawfulTests.{usable, usable_of, count_at}
+use Rattle.faults.specs.computed.Profile.{profile_of, count_at}
+use Rattle.faults.specs.computed.LawfulTests.{usable_of}
 use Rattle.faults.specs.declared.lawful.Usable.{Usable}
 use Rattle.faults.specs.declared.profile.Profile.{Profile}
 
 abbrev pub usable_in : ℕ → ℕ → Usable
 usable_in edition stage = usable_of (profile_of edition stage)
-
--- the opcodes are those of the edition, whatever the stage
-pub usable_opcodes : (edition stage : ℕ) → (usable_in edition stage).opcodes ≡ ordinary_set edition
-unfolding usable_of
-usable_opcodes edition stage = go (eqb stage 0) _ _ refl refl
-  where
-    go : (b : Bool) (u v : Usable) → u.opcodes ≡ ordinary_set edition → v.opcodes ≡ ordinary_set edition → (cond b u v).opcodes ≡ ordinary_set edition
-    go true u v e k = e
-    go false u v e k = k
 
 -- a kind that a stage does not use counts 0
 abbrev pub if_used : (ℕ → ℕ → Bool) → ℕ → ℕ → ℕ → ℕ
@@ -77,18 +67,18 @@ module _ (counts : Usable → ℕ) (used : ℕ → ℕ → Bool) where
       ]
 
 -- where there are none, none are usable
-none_usable : (counts : Usable → ℕ) (opcodes : ℕ) → counts (usable opcodes 0 0 0) ≡ 0 → (b : Bool) → counts (cond b (usable opcodes 0 0 0) (usable opcodes 0 0 0)) ≡ 0
-none_usable counts opcodes e true = e
-none_usable counts opcodes e false = e
+no_counts : (b : Bool) {none : ℕ} → cond b none none ≡ none
+no_counts true = refl
+no_counts false = refl
 
 pub readable_counts : (edition stage kind : ℕ) → kind < 8 → Agree (λ u. u.readable) is_readable edition stage kind
 unfolding agrees usable_of count_of
-readable_counts = agree (λ u. u.readable) is_readable (λ edition stage. none_usable (λ u. u.readable) (ordinary_set edition) refl (eqb stage 0)) tt
+readable_counts = agree (λ u. u.readable) is_readable (λ edition stage. no_counts (eqb stage 0)) tt
 
 pub writable_counts : (edition stage kind : ℕ) → kind < 8 → Agree (λ u. u.writable) is_writable edition stage kind
 unfolding agrees usable_of count_of
-writable_counts = agree (λ u. u.writable) is_writable (λ edition stage. none_usable (λ u. u.writable) (ordinary_set edition) refl (eqb stage 0)) tt
+writable_counts = agree (λ u. u.writable) is_writable (λ edition stage. no_counts (eqb stage 0)) tt
 
 pub indexing_counts : (edition stage kind : ℕ) → kind < 8 → Agree (λ u. u.indexing) is_index edition stage kind
 unfolding agrees usable_of count_of
-indexing_counts = agree (λ u. u.indexing) is_index (λ edition stage. none_usable (λ u. u.indexing) (ordinary_set edition) refl (eqb stage 0)) tt
+indexing_counts = agree (λ u. u.indexing) is_index (λ edition stage. no_counts (eqb stage 0)) tt

@@ -1,26 +1,27 @@
-// Faults 1 to 8, of the program as a whole; number 0 where there is none.
+// Faults 1 to 8, of the program as a whole.
 ghost use Rattle.std.specs.Prelude.{◌≡◌, ◌≤◌, length};
 ghost use Rattle.layout.specs.Layout.{word_at};
+ghost use Rattle.bytecode.specs.Decode.{outcome};
 ghost use Rattle.faults.specs.Rules.{edition_unknown};
-ghost use Rattle.faults.specs.computed.Header.{header_fault};
-ghost use Rattle.faults.specs.computed.Header.{rest_fault};
+ghost use Rattle.faults.specs.computed.Header.{header_fault, rest_fault};
 
 use bytecode::answers::Refusal;
 
-pub fn header_fault(edition: u32, bytes: &[u8]) -> Refusal
-    ensures { result ≡ header_fault edition bytes.now }
+#[tactic(auto, unfolding(crate::specs::computed::Header::header_fault, crate::specs::computed::Header::rest_fault))]
+pub fn header_fault(edition: u32, bytes: &[u8]) -> Result<(), Refusal>
+    ensures { result ≡ outcome (header_fault edition bytes.now) }
 {
     if edition_unknown(edition) {
-        return bytecode::refusal(1, 0, 0);
+        return Err(bytecode::refusal(1, 0, 0));
     }
     if bytes.len() < 7 {
-        return bytecode::refusal(2, 0, 0);
+        return Err(bytecode::refusal(2, 0, 0));
     }
     if bytes[0] != 0xa0 {
-        return bytecode::refusal(3, 0, 0);
+        return Err(bytecode::refusal(3, 0, 0));
     }
     if version(bytes) != 1 {
-        return bytecode::refusal(4, 0, 0);
+        return Err(bytecode::refusal(4, 0, 0));
     }
     rest_fault(edition, bytes)
 }
@@ -28,7 +29,7 @@ pub fn header_fault(edition: u32, bytes: &[u8]) -> Refusal
 fn edition_unknown(edition: u32) -> bool
     ensures { result ≡ edition_unknown edition }
 {
-    !((edition == 1) | (edition == 2) | (edition == 3))
+    !matches!(edition, 1 | 2 | 3)
 }
 
 fn version(bytes: &[u8]) -> u32
@@ -39,22 +40,23 @@ fn version(bytes: &[u8]) -> u32
 }
 
 // 5 to 8.
-fn rest_fault(edition: u32, bytes: &[u8]) -> Refusal
+#[tactic(auto, unfolding(crate::specs::computed::Header::rest_fault))]
+fn rest_fault(edition: u32, bytes: &[u8]) -> Result<(), Refusal>
     requires { 7 ≤ length bytes.now }
-    ensures { result ≡ rest_fault edition bytes.now }
+    ensures { result ≡ outcome (rest_fault edition bytes.now) }
 {
     if bytes[5] != 0xa1 {
-        return bytecode::refusal(5, 0, 0);
+        return Err(bytecode::refusal(5, 0, 0));
     }
     if 1 < bytes[6] {
-        return bytecode::refusal(6, 0, 0);
+        return Err(bytecode::refusal(6, 0, 0));
     }
     let size = bytes.len() - 7;
     if size % 24 != 0 {
-        return bytecode::refusal(7, 0, 0);
+        return Err(bytecode::refusal(7, 0, 0));
     }
     if registers::token_limit(edition) < size / 24 {
-        return bytecode::refusal(8, 0, 0);
+        return Err(bytecode::refusal(8, 0, 0));
     }
-    bytecode::refusal(0, 0, 0)
+    Ok(())
 }

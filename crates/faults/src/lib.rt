@@ -8,9 +8,3 @@ mod rules;
 mod tokens;
 
 pub use header::header_fault;
-pub use lawful::{
-    is_lawful, is_lawful_branch, is_lawful_indexed, is_lawful_kil, is_lawful_matrix, is_lawful_tex,
-    usable_of,
-};
-pub use profile::profile_of;
-pub use tokens::{own_fault, undecoded_fault};

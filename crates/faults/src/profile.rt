@@ -1,6 +1,6 @@
 // What an edition gives the programs of a stage, looked up once for each program.
 ghost use Rattle.std.specs.Prelude.{◌≡◌};
-ghost use Rattle.faults.specs.computed.Profile.{profile_of, count_in};
+ghost use Rattle.faults.specs.computed.Profile.{profile_of, count_at, count_in};
 
 // Register counts stand by kind, eight bits each, so that one shift finds a count.
 #[derive(Clone, Copy)]
@@ -10,23 +10,33 @@ pub struct Profile {
     pub counts: u64,
 }
 
-pub fn profile_of(edition: u32, stage: u8) -> Profile
-    ensures { result ≡ profile_of edition stage }
-{
-    let counts = registers::register_counts(edition, stage);
-    Profile {
-        edition,
-        stage,
-        counts,
+impl Profile {
+    pub fn of(edition: u32, stage: u8) -> Profile
+        ensures { result ≡ profile_of edition stage }
+    {
+        let counts = registers::register_counts(edition, stage);
+        Profile {
+            edition,
+            stage,
+            counts,
+        }
+    }
+
+    // How many registers of a kind there are.
+    #[tactic(auto, unfolding(crate::specs::computed::Profile::count_in))]
+    pub(crate) fn count_of(self, kind: u8) -> u16
+        ensures { result ≡ count_in self kind }
+    {
+        if 8 <= kind {
+            return 0;
+        }
+        count_at(self.counts, kind)
     }
 }
 
-// How many registers of a kind there are.
-pub(crate) fn count_of(profile: Profile, kind: u8) -> u16
-    ensures { result ≡ count_in profile kind }
+// The count of a kind below 8.
+pub(crate) fn count_at(counts: u64, kind: u8) -> u16
+    ensures { result ≡ count_at counts kind }
 {
-    if 8 <= kind {
-        return 0;
-    }
-    ((profile.counts >> (8 * kind as u32)) % 256) as u16
+    ((counts >> (8 * (kind % 8) as u32)) % 256) as u16
 }

@@ -1,77 +1,87 @@
 // Rules 10, 11 and 14 to 19 of one token.
-ghost use Rattle.std.specs.Prelude.{◌≡◌};
-ghost use Rattle.layout.specs.Records.{destination_of};
+ghost use Rattle.std.specs.Prelude.{◌≡◌, ◌||◌, ◌&&◌, eqb};
+ghost use Rattle.layout.specs.Opcodes.{is_three_wide};
+ghost use Rattle.layout.specs.Swizzles.{bit_of};
 ghost use Rattle.faults.specs.computed.Profile.{count_in};
 ghost use Rattle.faults.specs.Rules.{opcode_too_new, opcode_not_for_stage, destination_wrong, mask_wrong, indexed_wrong, direct_wrong, selectors_differ, matrix_swizzled, sampler_wrong};
 
-use crate::profile;
 use crate::profile::Profile;
 use layout::opcodes;
-use layout::record::{DirectSource, IndexedSource, Sampler};
+use layout::record::{DirectSource, IndexedSource, MaskedRegister, Sampler};
 
-// 10
-pub(crate) fn opcode_too_new(edition: u32, opcode: u32) -> bool
-    ensures { result ≡ opcode_too_new edition opcode }
-{
-    (edition == 1) & opcodes::is_added(opcode)
-}
-
-// 11
-pub(crate) fn opcode_not_for_stage(stage: u8, opcode: u32) -> bool
-    ensures { result ≡ opcode_not_for_stage stage opcode }
-{
-    (stage == 0) & opcodes::is_fragment_only(opcode)
-}
-
-// 14
-pub(crate) fn destination_wrong(profile: Profile, used: bool, field: u64) -> bool
-    ensures { result ≡ destination_wrong (count_in profile) profile.stage (destination_of used field) }
-{
-    if used {
-        let r = layout::unpack_register(field);
-        if !registers::is_writable(r.kind, profile.stage) {
-            return true;
-        }
-        return profile::count_of(profile, r.kind) <= r.number;
+// The rules that ask what an edition gives a stage.
+impl Profile {
+    // 10
+    pub(crate) fn opcode_too_new(self, opcode: u32) -> bool
+        ensures { result ≡ opcode_too_new self.edition opcode }
+    {
+        (self.edition == 1) & opcodes::is_added(opcode)
     }
-    false
+
+    // 11
+    pub(crate) fn opcode_not_for_stage(self, opcode: u32) -> bool
+        ensures { result ≡ opcode_not_for_stage self.stage opcode }
+    {
+        (self.stage == 0) & opcodes::is_fragment_only(opcode)
+    }
+
+    // 14
+    pub(crate) fn destination_wrong(self, destination: Option<MaskedRegister>) -> bool
+        ensures { result ≡ destination_wrong (count_in self) self.stage destination }
+    {
+        match destination {
+            None => false,
+            Some(r) => {
+                !registers::is_writable(r.kind, self.stage) | (self.count_of(r.kind) <= r.number)
+            }
+        }
+    }
+
+    // 16
+    pub(crate) fn indexed_wrong(self, rows: u8, s: IndexedSource) -> bool
+        ensures { result ≡ indexed_wrong (count_in self) self.stage rows s }
+    {
+        let end = s.offset as u16 + rows as u16;
+        (self.stage != 0)
+            | (s.kind != 1)
+            | (2 < s.index_kind)
+            | (self.count_of(s.index_kind) <= s.number)
+            | (self.count_of(1) < end)
+    }
+
+    // 17
+    pub(crate) fn direct_wrong(self, rows: u8, s: DirectSource) -> bool
+        ensures { result ≡ direct_wrong (count_in self) self.stage rows s }
+    {
+        let end = s.number as u32 + rows as u32;
+        !registers::is_readable(s.kind, self.stage)
+            | ((self.count_of(s.kind) as u32) < end)
+            | (s.offset != 0)
+    }
+
+    // 19
+    pub(crate) fn sampler_wrong(self, s: Sampler) -> bool
+        ensures { result ≡ sampler_wrong (count_in self) s }
+    {
+        (self.count_of(5) <= s.number) | layout::settings_wrong(s)
+    }
 }
 
 // 15
-pub(crate) fn mask_wrong(opcode: u32, used: bool, field: u64) -> bool
-    ensures { result ≡ mask_wrong opcode (destination_of used field) }
+pub(crate) fn mask_wrong(opcode: u32, destination: Option<MaskedRegister>) -> bool
+    ensures { result ≡ mask_wrong opcode destination }
 {
-    if used {
-        let r = layout::unpack_register(field);
-        return (r.mask == 0) | (opcodes::is_three_wide(opcode) & layout::mask_has(r.mask, 3));
+    match destination {
+        None => false,
+        Some(r) => is_wrong_mask(opcode, r.mask),
     }
-    false
 }
 
-// 16
-pub(crate) fn indexed_wrong(profile: Profile, rows: u8, s: IndexedSource) -> bool
-    ensures { result ≡ indexed_wrong (count_in profile) profile.stage rows s }
+// 15 of a mask that stands.
+pub(crate) fn is_wrong_mask(opcode: u32, mask: u8) -> bool
+    ensures { result ≡ (eqb mask 0 || (is_three_wide opcode && bit_of mask 3)) }
 {
-    let count = profile::count_of(profile, s.index_kind);
-    let constants = profile::count_of(profile, 1);
-    let end = s.offset as u16 + rows as u16;
-    (profile.stage != 0)
-        | (s.kind != 1)
-        | (2 < s.index_kind)
-        | (count <= s.number)
-        | (constants < end)
-}
-
-// 17
-pub(crate) fn direct_wrong(profile: Profile, rows: u8, s: DirectSource) -> bool
-    ensures { result ≡ direct_wrong (count_in profile) profile.stage rows s }
-{
-    if !registers::is_readable(s.kind, profile.stage) {
-        return true;
-    }
-    let count = profile::count_of(profile, s.kind);
-    let end = s.number as u32 + rows as u32;
-    ((count as u32) < end) | (s.offset != 0)
+    (mask == 0) | (opcodes::is_three_wide(opcode) & layout::mask_has(mask, 3))
 }
 
 // 18, of source 1
@@ -89,12 +99,4 @@ pub(crate) fn matrix_swizzled(opcode: u32, swizzle: u8) -> bool
     ensures { result ≡ matrix_swizzled opcode swizzle }
 {
     opcodes::is_matrix(opcode) & (swizzle != layout::XYZW)
-}
-
-// 19
-pub(crate) fn sampler_wrong(profile: Profile, s: Sampler) -> bool
-    ensures { result ≡ sampler_wrong (count_in profile) s }
-{
-    let count = profile::count_of(profile, 5);
-    (count <= s.number) | layout::settings_wrong(s)
 }

@@ -21,10 +21,6 @@ pub both_right : (a b : Bool) → T (a && b) → T b
 both_right true b t = t
 both_right false b t = absurd t
 
-pub either_right : (a b : Bool) → T (a || b) → a ≡ false → T b
-either_right true b t e = absurd (subst T e tt)
-either_right false b t e = t
-
 pub is_true : (b : Bool) → T b → b ≡ true
 is_true true t = refl
 is_true false t = absurd t

@@ -1,3 +1,2 @@
-// Laws that the proofs of several crates cite: proofs/Every.antt on tables and Booleans, proofs/Bits.antt on the bits of numbers. There is no
-// code here.
+// Laws that the proofs of several crates cite: proofs/Every.antt on tables and Booleans. There is no code here.
 #![tactic(auto)]

@@ -2,17 +2,17 @@
 -- each set is told by its list alone, in a test over all 64 numbers that a set can hold.
 -- Assumes nothing.
 use Prim.Native.Nat.{ℕ, ◌≤◌}
-use mathlib.Core.Bool.{Bool, true, false, cond, not, ◌&&◌, ◌||◌, beq, and-false, false≢true}
+use mathlib.Core.Bool.{Bool, true, false, cond, not, ◌&&◌, ◌||◌, beq, false≢true}
 use mathlib.Core.List.{List, [], ◌∷◌, ◌++◌}
 use mathlib.Core.Path.{◌≡◌, refl, sym, ap, ap₂, ◌∙◌}
 use native.Mathlib.Decide.{dec_lt}
 use native.Mathlib.Omega.{arith}
-use lib.Dec.{T, eqb, leb, eqb→eq}
-use borrow.Author.Tests.{lt-ltb, le-ltb, lt-leb, ne_eqb, eqb-false}
+use lib.Dec.{T, eqb, eqb→eq}
+use borrow.Author.Tests.{lt-ltb, le-ltb, ne_eqb, eqb-false}
 use Rattle.laws.specs.computed.Tests.{every}
 use Rattle.laws.proofs.Every.{below, both_left, both_right, neither, same→eq}
-use Rattle.layout.specs.Opcodes.{is_in, kil, tex, m33, m44, m34, ife, eif, first_opcodes, added_opcodes, openers, bare_opcodes, is_added, is_matrix, row_count2, unlisted, shape_of_row, shape_of}
-use Rattle.layout.specs.computed.Groups.{is_branch, is_ordinary, is_ordinary_in, source_shape, second_shape}
+use Rattle.layout.specs.Opcodes.{is_in, kil, tex, m33, m44, m34, first_opcodes, added_opcodes, is_added, is_matrix, row_count2, unlisted, shape_of_row, shape_of}
+use Rattle.layout.specs.computed.Groups.{is_ordinary, is_ordinary_in, source_shape, second_shape}
 use Rattle.layout.specs.Selections.{by_three1, by_four1}
 use Rattle.layout.specs.computed.Sets.{among_of, set_below, ordinary_set, coordinate_set, named_set, selector_set1, selector_set2, read_set2}
 use Rattle.layout.specs.Swizzles.{bit_of}
@@ -86,14 +86,6 @@ module _ (o : ℕ) (outside : (m33 ≤ o → o ≤ m34 → ⊥)) where
   by_selectors m z =
       rw (no_matrix m33 (omega arith) (omega arith), no_matrix m34 (omega arith) (omega arith), no_matrix m44 (omega arith) (omega arith))
 
-pub three_rows : (o : ℕ) → m33 ≤ o → o ≤ m34 → (o ≡ m44 → ⊥) → row_count2 o ≡ 3
-unfolding row_count2
-three_rows o low high h =
-    elim (dec_lt o m44) [
-      | yes l ↦ let e : o ≡ m33 = omega arith in rw e
-      | no l ↦ let e : o ≡ m34 = omega (arith, l, h) in rw e
-    ]
-
 -- ---- the ordinary opcodes of an edition
 
 -- by whether the edition is the first
@@ -116,15 +108,6 @@ in_ordinary edition o = in_set (ordinary_set edition) (is_ordinary_in edition) (
 
     none : (o : ℕ) → 64 ≤ o → is_ordinary_in edition o ≡ false
     none o l = rw (not_in o 64 (first_opcodes ++ added_opcodes) l tt)
-
--- ---- the openers, els and eif stand one after another
-
-pub branch_range : (o : ℕ) → (leb ife o && leb o eif) ≡ is_branch o
-branch_range o =
-    elim (dec_lt o 64) [
-      | yes h ↦ same→eq (leb ife o && leb o eif) (is_branch o) (below (λ o. beq (leb ife o && leb o eif) (is_branch o)) 64 tt o h)
-      | no h ↦ rw (lt-leb o eif (omega (arith, h)), and-false (leb ife o), not_in o 64 (openers ++ bare_opcodes) (omega (arith, h)) tt)
-    ]
 
 -- ---- shapes, by numbers
 

@@ -7,7 +7,9 @@ use mathlib.Core.Path.{◌≡◌, refl, sym, ap, ◌∙◌}
 use native.Mathlib.Nat.{div-one}
 use native.Mathlib.Omega.{arith}
 use lib.Bits.{bit_or}
+use lib.Count.{ones}
 use lib.Dec.{eqb, eqb→eq}
+use Rattle.std.specs.Int.{is_power_of_two}
 use Rattle.laws.specs.computed.Tests.{every}
 use Rattle.laws.proofs.Every.{below, same→eq}
 use Rattle.layout.specs.Opcodes.{is_in, m33, m44, m34, kil, tex}
@@ -133,3 +135,10 @@ is_one set = ((eqb set 1 || eqb set 2) || eqb set 4) || eqb set 8
 pub one_named : (z : ℕ) → z < 256 → is_one (components_of z) ≡ selectors_agree z
 unfolding components_of
 one_named z h = same→eq (is_one (components_of z)) (selectors_agree z) (below (λ z. beq (is_one (components_of z)) (selectors_agree z)) 256 tt z h)
+
+-- and a set of one member is a power of two
+pub power_named : (z : ℕ) → z < 256 → is_power_of_two (components_of z) ≡ selectors_agree z
+unfolding components_of ones
+power_named z h =
+    same→eq (is_power_of_two (components_of z)) (is_one (components_of z)) (below (λ z. beq (is_power_of_two (components_of z)) (is_one (components_of z))) 256 tt z h)
+    ∙ one_named z h

@@ -1,14 +1,9 @@
--- Shifts as the machine has them: 1 to the left, a number to the right until nothing is left of it, and a shift by two bits at a time.
+-- Shifts to the right: a number until nothing is left of it, and a shift by two bits at a time.
 -- Assumes nothing.
-use Prim.Native.Nat.{ℕ, zero, suc, ◌*◌, ◌/◌, ◌%◌, ◌^◌, ◌≤◌, ◌<◌}
+use Prim.Native.Nat.{ℕ, zero, suc, ◌*◌, ◌/◌, ◌^◌, ◌≤◌, ◌<◌}
 use mathlib.Core.Path.{◌≡◌, refl, sym, ap, ◌∙◌}
-use native.Mathlib.Nat.{one-mul, mul-suc, pow-suc, pow-le-pow_right, lt_of_lt_of_le, div-eq_of_lt}
-use native.Mathlib.Omega.{arith}
-use lib.Dec.{lit<}
-use lib.Pow.{pow-add, shl_exact}
-
-pub power : (k : ℕ) → k < 64 → 1 * 2 ^ k % 2 ^ 64 ≡ 2 ^ k
-power k h = shl_exact {a = 1} 1 k 64 (lit< tt) (omega arith) ∙ one-mul (2 ^ k)
+use native.Mathlib.Nat.{mul-suc, pow-suc, pow-le-pow_right, lt_of_lt_of_le, div-eq_of_lt}
+use lib.Pow.{pow-add}
 
 -- a number of m digits, in any base, has none further on
 pub shifted_out : (base n m k : ℕ) → zero < base → n < base ^ m → m ≤ k → n / base ^ k ≡ 0

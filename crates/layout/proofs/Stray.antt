@@ -8,7 +8,7 @@ use lib.Bits.{bit_and, and_le_r, and_shr, and_mod}
 use lib.Dec.{eqb}
 use borrow.Author.Tests.{eq-eqb, eqb-true, not-false}
 use Rattle.layout.specs.Layout.{Bits, value_of, defined_bits, is_stray}
-use Rattle.laws.proofs.Bits.{and_assoc}
+use Rattle.std.proofs.lemmas.Nat.{and_assoc}
 use Rattle.layout.proofs.Rows.{Rising, Fit, pack, values, and_rows, values_again}
 
 pub not_stray : (d w : ℕ) → is_stray d w ≡ false → bit_and w d ≡ w
@@ -29,7 +29,7 @@ none_stray rows vs r f =
 pub wider : (narrow wide w : ℕ) → bit_and narrow wide ≡ narrow → is_stray narrow w ≡ false → is_stray wide w ≡ false
 wider narrow wide w n e =
     let k = not_stray narrow w e in
-    let q : bit_and w wide ≡ w = ap (λ x. bit_and x wide) (sym k) ∙ and_assoc w narrow wide ∙ ap (bit_and w) n ∙ k in
+    let q : bit_and w wide ≡ w = ap (λ x. bit_and x wide) (sym k) ∙ and_assoc wide w narrow ∙ ap (bit_and w) n ∙ k in
     ap not (eq-eqb (bit_and w wide) w q)
 
 -- a value is no larger than the mask's own

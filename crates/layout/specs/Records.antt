@@ -48,6 +48,18 @@ indexed_of f =
       component = value_of layout.component f;
     }
 
+-- an indirect source's values, which are those that a direct one has
+abbrev pub as_direct : IndexedSource → DirectSource
+as_direct s =
+    record {
+      number = s.number;
+      offset = s.offset;
+      swizzle = s.swizzle;
+      kind = s.kind;
+      index_kind = s.index_kind;
+      component = s.component;
+    }
+
 -- D = 0 is direct, D = 1 indirect
 abbrev pub is_indexed : ℕ → Bool
 is_indexed f = not (eqb (value_of layout.indirect f) 0)

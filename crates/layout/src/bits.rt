@@ -12,6 +12,26 @@ pub struct Bits {
     pub width: u32,
 }
 
+impl Bits {
+    // The value that a field has there.
+    pub(crate) fn value_of(self, field: u64) -> u64
+        requires within { self.first < 64 }
+        requires narrow { self.width < 64 }
+        ensures { result ≡ value_at self.first self.width field }
+    {
+        (field >> self.first) % (1 << self.width)
+    }
+
+    // The same where it is no wider than a byte.
+    pub(crate) fn byte_of(self, field: u64) -> u8
+        requires within { self.first < 64 }
+        requires narrow { self.width ≤ 8 }
+        ensures { result ≡ value_at self.first self.width field }
+    {
+        self.value_of(field) as u8
+    }
+}
+
 // The number, in every field.
 pub const NUMBER: Bits = Bits {
     first: 0,
@@ -96,16 +116,6 @@ const DESTINATION_BITS: u64 = 0x0F0F_FFFF;
 const SOURCE_BITS: u64 = 0x8003_0F0F_FFFF_FFFF;
 
 const SAMPLER_BITS: u64 = 0xFFFF_F00F_00FF_FFFF;
-
-// The value that a field has at some bits.
-pub(crate) fn value(field: u64, at: Bits) -> u64
-    requires width_bound { at.first + at.width ≤ 64 }
-    requires width_bound_2 { at.width < 64 }
-    requires first_bound { at.first < 64 }
-    ensures { result ≡ value_at at.first at.width field }
-{
-    (field >> at.first) % (1 << at.width)
-}
 
 // The defined bits of a destination, none where it is unused.
 pub fn destination_bits(used: bool) -> u64

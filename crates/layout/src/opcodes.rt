@@ -5,14 +5,15 @@ ghost use Rattle.layout.specs.computed.Groups.{source_shape, second_shape, is_br
 ghost use Rattle.layout.specs.computed.Sets.{among_of, ordinary_set};
 
 // What stands in the field of a source.
-#[derive(Clone, Copy)]
+#[derive(Clone, Copy, Debug, PartialEq, Eq)]
 pub enum OperandShape {
     Unused,
     Source,
     Sampler,
 }
 
-// What a token with some opcode holds. An opcode that is not listed holds nothing.
+// What a token with some opcode holds. An opcode that is not listed holds nothing: it too has a shape (`unlisted` in specs/Opcodes), so `listed`
+// stands among the fields, and there is no Option round them.
 #[derive(Clone, Copy)]
 pub struct Shape {
     pub listed: bool,
@@ -22,7 +23,7 @@ pub struct Shape {
 }
 
 // What a token does to branches.
-#[derive(Clone, Copy)]
+#[derive(Clone, Copy, Debug, PartialEq, Eq)]
 pub enum Flow {
     Plain,
     Opener,
@@ -30,13 +31,26 @@ pub enum Flow {
     Eif,
 }
 
+// Opcodes that a rule names. They are numbers and no enum, since the functions below answer every number that can stand in a token.
+pub const NRM: u32 = 0x0e;
+
+pub const CRS: u32 = 0x11;
+
+pub const DP3: u32 = 0x12;
+
+pub const DP4: u32 = 0x13;
+
 pub const M33: u32 = 0x17;
 
 pub const M44: u32 = 0x18;
 
 pub const M34: u32 = 0x19;
 
+pub const DDX: u32 = 0x1a;
+
 pub const IFE: u32 = 0x1c;
+
+pub const IFL: u32 = 0x1f;
 
 pub const ELS: u32 = 0x20;
 
@@ -55,20 +69,14 @@ const WITH_SOURCE1: u64 = 0x3780_FFFF_FFFF;
 
 const WITH_SOURCE2: u64 = 0x3600_F38E_08DE;
 
-// ddx, ddy, the openers, els and eif.
-const ADDED: u64 = 0x0003_FC00_0000;
+// ddx to eif, and ife to ifl.
+const ADDED: u64 = (1 << (EIF + 1)) - (1 << DDX);
 
-// ife, ine, ifg and ifl.
-const OPENERS: u64 = 0xF000_0000;
+pub(crate) const OPENERS: u64 = (1 << (IFL + 1)) - (1 << IFE);
 
-// kil and tex.
-const FRAGMENT_ONLY: u64 = 0x0180_0000_0000;
+const FRAGMENT_ONLY: u64 = 1 << KIL | 1 << TEX;
 
-// nrm, crs, m33 and m34.
-const THREE_WIDE: u64 = 0x0282_4000;
-
-// m33, m44 and m34.
-const MATRICES: u64 = 0x0380_0000;
+const MATRICES: u64 = 1 << M33 | 1 << M44 | 1 << M34;
 
 // All with a destination but matrices and those that only fragment programs have: one or two sources of one register, in every stage, and no
 // rule of its own but 10 and 15. The set follows from the others, as does the next.
@@ -78,13 +86,11 @@ const ORDINARY: u64 = WITH_DESTINATION & !(MATRICES | FRAGMENT_ONLY);
 const FIRST_ORDINARY: u64 = ORDINARY & !ADDED;
 
 // Whether an opcode is in a set.
+#[tactic(auto, unfolding(crate::specs::computed::Sets::among_of))]
 pub fn among(set: u64, opcode: u32) -> bool
     ensures { result ≡ among_of set opcode }
 {
-    if 64 <= opcode {
-        return false;
-    }
-    (set >> opcode) % 2 == 1
+    opcode < 64 && (set >> opcode) % 2 == 1
 }
 
 // The shape of every opcode number.
@@ -117,39 +123,36 @@ fn source(used: bool) -> OperandShape
 fn second_source(opcode: u32, used: bool) -> OperandShape
     ensures { result ≡ second_shape opcode used }
 {
-    if opcode == TEX {
-        return OperandShape::Sampler;
+    match opcode {
+        TEX => OperandShape::Sampler,
+        _ => source(used),
     }
-    source(used)
 }
 
 // What every opcode number does to branches.
+#[tactic(auto, unfolding(crate::specs::Opcodes::flow_of))]
 pub fn flow_of(opcode: u32) -> Flow
     ensures { result ≡ flow_of opcode }
 {
-    if is_opener(opcode) {
-        return Flow::Opener;
+    match opcode {
+        IFE..=IFL => Flow::Opener,
+        ELS => Flow::Els,
+        EIF => Flow::Eif,
+        _ => Flow::Plain,
     }
-    if opcode == ELS {
-        return Flow::Els;
-    }
-    if opcode == EIF {
-        return Flow::Eif;
-    }
-    Flow::Plain
 }
 
 pub fn is_opener(opcode: u32) -> bool
     ensures { result ≡ is_opener opcode }
 {
-    among(OPENERS, opcode)
+    matches!(opcode, IFE..=IFL)
 }
 
 // Whether it is an opener, els or eif: they stand one after another.
 pub fn is_branch(opcode: u32) -> bool
     ensures { result ≡ is_branch opcode }
 {
-    (IFE <= opcode) & (opcode <= EIF)
+    matches!(opcode, IFE..=EIF)
 }
 
 // The set of the ordinary opcodes of an edition.
@@ -167,25 +170,25 @@ pub fn ordinary(edition: u32) -> u64
 pub fn is_added(opcode: u32) -> bool
     ensures { result ≡ is_added opcode }
 {
-    among(ADDED, opcode)
+    matches!(opcode, DDX..=EIF)
 }
 
 // Whether only fragment programs have it.
 pub fn is_fragment_only(opcode: u32) -> bool
     ensures { result ≡ is_fragment_only opcode }
 {
-    among(FRAGMENT_ONLY, opcode)
+    matches!(opcode, KIL | TEX)
 }
 
 // Whether its result has no fourth component.
 pub fn is_three_wide(opcode: u32) -> bool
     ensures { result ≡ is_three_wide opcode }
 {
-    among(THREE_WIDE, opcode)
+    matches!(opcode, NRM | CRS | M33 | M34)
 }
 
 pub fn is_matrix(opcode: u32) -> bool
     ensures { result ≡ is_matrix opcode }
 {
-    among(MATRICES, opcode)
+    matches!(opcode, M33 | M44 | M34)
 }

@@ -1,4 +1,6 @@
 // A token record: what the 24 bytes of a token say. A `kind` is a register type, 0 to 6 in the format.
+ghost use Rattle.std.specs.Prelude.{◌≡◌};
+ghost use Rattle.layout.specs.Records.{as_direct};
 
 // A register that is written, and the components that are: bit 0 of the mask is x, bit 3 is w.
 #[derive(Clone, Copy)]
@@ -20,7 +22,8 @@ pub struct DirectSource {
 }
 
 // A source with D = 1: the register of `kind` whose number is `offset` more than a component of the index register, whose own kind is
-// `index_kind` and whose number is `number`.
+// `index_kind` and whose number is `number`. It has a direct source's fields and a type of its own, so that no rule on one of them can be asked
+// of the other.
 #[derive(Clone, Copy)]
 pub struct IndexedSource {
     pub number: u16,
@@ -29,6 +32,22 @@ pub struct IndexedSource {
     pub kind: u8,
     pub index_kind: u8,
     pub component: u8,
+}
+
+// Its values, which are those that a direct source has.
+impl From<IndexedSource> for DirectSource {
+    ghost from_gives = { λ s r. r ≡ as_direct s };
+
+    fn from(s: IndexedSource) -> DirectSource {
+        DirectSource {
+            number: s.number,
+            offset: s.offset,
+            swizzle: s.swizzle,
+            kind: s.kind,
+            index_kind: s.index_kind,
+            component: s.component,
+        }
+    }
 }
 
 // The second source of tex. The bias counts eighths of a level of detail.

@@ -10,10 +10,7 @@ pub const XYZW: u8 = 0xe4;
 pub fn mask_has(mask: u8, component: u8) -> bool
     ensures { result ≡ bit_of mask component }
 {
-    if 8 <= component {
-        return false;
-    }
-    (mask >> component) % 2 == 1
+    component < 8 && (mask >> component) % 2 == 1
 }
 
 // The component that a selector of a swizzle names: bits 0-1 are the first selector, bits 6-7 the last.
@@ -47,9 +44,9 @@ pub fn components(swizzle: u8) -> u8
 }
 
 // Whether all four selectors name one component: the set that they name has one member.
+#[tactic(auto, using(crate::proofs::SelectionLaws::power_named))]
 pub fn selectors_agree(swizzle: u8) -> bool
     ensures { result ≡ selectors_agree swizzle }
 {
-    let set = components(swizzle);
-    (set == 1) | (set == 2) | (set == 4) | (set == 8)
+    components(swizzle).is_power_of_two()
 }

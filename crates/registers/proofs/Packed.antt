@@ -1,6 +1,6 @@
 -- Seven counts as one number, and each of them in it.
 -- Assumes nothing.
-use Prim.Native.Nat.{ℕ, zero, suc, ◌*◌, ◌/◌, ◌%◌, ◌^◌, ◌<◌}
+use Prim.Native.Nat.{ℕ, zero, suc, ◌*◌, ◌/◌, ◌%◌, ◌^◌, ◌<◌, ◌≤◌}
 use mathlib.Core.Path.{◌≡◌, ◌∙◌, sym}
 use native.Mathlib.Decide.{dec_lt}
 use native.Mathlib.Omega.{arith}
@@ -9,10 +9,24 @@ use Rattle.laws.specs.computed.Tests.{every}
 use Rattle.laws.proofs.Every.{below}
 use Rattle.registers.specs.Counts.{count_of}
 use Rattle.registers.specs.computed.Packed.{packed}
-use Rattle.registers.proofs.Outside.{outside_kind, outside_edition, outside_stage}
+use Rattle.registers.proofs.Outside.{outside_kind, outside_edition, outside_stage, no_edition}
 
 pub none_packed : (c : ℕ → ℕ) → ((k : ℕ) → c k ≡ 0) → 0 ≡ packed c
 none_packed c h = rw (h 0, h 1, h 2, h 3, h 4, h 5, h 6)
+
+-- what is in no table counts 0
+pub absent : (edition stage : ℕ) → (1 ≤ edition → edition ≤ 3 → stage ≤ 1 → ⊥) → 0 ≡ packed (λ k. count_of k edition stage)
+absent e s out =
+    elim (dec_lt e 1) [
+      | yes none ↦ none_packed (λ k. count_of k e s) (λ k. no_edition k e s none)
+      | no first ↦ elim (dec_lt 3 e) [
+        | yes past ↦ none_packed (λ k. count_of k e s) (λ k. outside_edition k e s (omega (arith, past)))
+        | no last ↦ elim (dec_lt 1 s) [
+          | yes third ↦ none_packed (λ k. count_of k e s) (λ k. outside_stage k e s (omega (arith, third)))
+          | no stage ↦ absurd (out (omega (arith, first)) (omega (arith, last)) (omega (arith, stage)))
+        ]
+      ]
+    ]
 
 -- no count needs more than eight bits
 count_small : (kind edition stage : ℕ) → count_of kind edition stage < 256

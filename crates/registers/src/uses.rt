@@ -5,23 +5,19 @@ ghost use Rattle.registers.specs.Uses.{is_readable, is_writable};
 pub fn is_readable(kind: u8, stage: u8) -> bool
     ensures { result ≡ is_readable kind stage }
 {
-    if stage == 0 {
-        return (kind == 0) | (kind == 1) | (kind == 2);
+    match stage {
+        0 => matches!(kind, 0 | 1 | 2),
+        1 => matches!(kind, 1 | 2 | 4),
+        _ => false,
     }
-    if stage == 1 {
-        return (kind == 1) | (kind == 2) | (kind == 4);
-    }
-    false
 }
 
 pub fn is_writable(kind: u8, stage: u8) -> bool
     ensures { result ≡ is_writable kind stage }
 {
-    if stage == 0 {
-        return (kind == 2) | (kind == 3) | (kind == 4);
+    match stage {
+        0 => matches!(kind, 2 | 3 | 4),
+        1 => matches!(kind, 2 | 3 | 6),
+        _ => false,
     }
-    if stage == 1 {
-        return (kind == 2) | (kind == 3) | (kind == 6);
-    }
-    false
 }

@@ -2,7 +2,11 @@
 -- of components as a number. That each says what Reads says is proved, in AccessLaws.
 use Rattle.std.specs.Prelude.{ℕ, ◌*◌, ◌%◌, ◌^◌, Bool, ◌&&◌, List, eqb}
 use Rattle.layout.specs.Opcodes.{row_count2}
+use Rattle.layout.specs.Records.{direct_of, token_of}
 use Rattle.layout.specs.computed.Sets.{named_set, selector_set1, read_set2}
+use Rattle.layout.specs.declared.fields.Fields.{Fields}
+use Rattle.layout.specs.declared.opcodes.OperandShape.{OperandShape}
+use Rattle.layout.specs.declared.opcodes.Shape.{Shape}
 use Rattle.layout.specs.declared.record.DirectSource.{DirectSource}
 use Rattle.layout.specs.declared.record.IndexedSource.{IndexedSource}
 use Rattle.layout.specs.declared.record.Operand.{Operand}
@@ -11,6 +15,8 @@ use Rattle.layout.specs.declared.record.Token.{Token}
 use Rattle.layout.specs.Swizzles.{mask_components}
 use Rattle.components.specs.Reads.{Component, rows_of, mask_of, dimension_of}
 use Rattle.components.specs.computed.Written.{lacks_of}
+use Rattle.components.specs.declared.access.Source.{Source}
+use Rattle.components.specs.declared.access.Source.TheVariants.{First, Second}
 use Rattle.components.specs.declared.written.Written.{Written}
 
 -- a register of some kind, how many rows from it, and the components that are read of each: bit 0 is x, bit 3 is w
@@ -62,6 +68,35 @@ access1_of t = access_through 1 (components1_of t) t.source1
 -- what it reads through source 2
 abbrev pub access2_of : Token → Access
 access2_of t = access_through (row_count2 t.opcode) (components2_of t) t.source2
+
+-- what it reads through one of the two
+abbrev pub access_of : Source → Token → Access
+access_of First t = access1_of t
+access_of Second t = access2_of t
+
+-- what an opcode has for a source
+abbrev pub shape_at : Source → Shape → OperandShape
+shape_at First shape = shape.source1
+shape_at Second shape = shape.source2
+
+-- the field of a source
+abbrev pub field_at : Source → Fields → ℕ
+field_at First f = f.source1
+field_at Second f = f.source2
+
+-- how many registers are read through it
+abbrev pub rows_at : Source → ℕ → ℕ
+rows_at First opcode = 1
+rows_at Second opcode = row_count2 opcode
+
+-- and which components of each, by a swizzle
+abbrev pub components_at : Source → Token → ℕ → ℕ
+components_at First t = components1_of t
+components_at Second t = components2_of t
+
+-- what is read through a field that holds a direct source
+abbrev pub direct_access_of : Source → Shape → Fields → Access
+direct_access_of source shape f = direct_access (rows_at source f.opcode) (components_at source (token_of shape f)) (direct_of (field_at source f))
 
 -- some of the four components of a direct source's rows is not written, whether it is read or not
 unfoldable pub lacks_some : Written → ℕ → DirectSource → Bool

@@ -1,6 +1,6 @@
 -- What the tests compute that tell lawful tokens by a few looks at their fields, and what the answer "yes" means: the token is Lawful. Nobody
 -- has to believe these.
-use Rattle.std.specs.Prelude.{ℕ, ◌+◌, ◌*◌, ◌/◌, ◌%◌, ◌^◌, Bool, true, false, not, cond, ◌&&◌, ◌||◌, ◌≡◌, eqb, ltb, leb}
+use Rattle.std.specs.Prelude.{ℕ, ◌+◌, ◌*◌, ◌%◌, Bool, true, false, not, cond, ◌&&◌, ◌||◌, ◌≡◌, eqb, ltb, leb}
 use Rattle.std.specs.Int.Bits.{bit_and}
 use Rattle.layout.specs.Layout as layout
 use Rattle.layout.specs.Layout.{value_of, operand_bits, is_stray}
@@ -13,24 +13,20 @@ use Rattle.layout.specs.declared.opcodes.OperandShape.{OperandShape}
 use Rattle.layout.specs.declared.opcodes.OperandShape.TheVariants.{Unused, Source, Sampler}
 use Rattle.faults.specs.Rules.{mask_wrong, sampler_wrong}
 use Rattle.faults.specs.Lawful.{Lawful}
-use Rattle.faults.specs.computed.Profile.{profile_of, count_in}
+use Rattle.faults.specs.computed.Profile.{profile_of, count_at, count_in}
 use Rattle.faults.specs.declared.lawful.Usable.{Usable}
 use Rattle.faults.specs.declared.profile.Profile.{Profile}
-
-abbrev pub usable : ℕ → ℕ → ℕ → ℕ → Usable
-usable opcodes readable writable indexing =
-    record { opcodes = opcodes; readable = readable; writable = writable; indexing = indexing }
 
 -- the counts of the kinds that a stage reads, of those that it writes, and of those that may be indices
 unfoldable pub usable_of : Profile → Usable
 usable_of p =
-    cond (eqb p.stage 0)
-    (usable (ordinary_set p.edition) (bit_and p.counts 0xffffff) (bit_and p.counts 0xffffff0000) (bit_and p.counts 0xffffff))
-    (usable (ordinary_set p.edition) (bit_and p.counts 0xff00ffff00) (bit_and p.counts 0xff0000ffff0000) 0)
-
--- the count of a kind below 8
-abbrev pub count_at : ℕ → ℕ → ℕ
-count_at counts kind = counts / 2 ^ (8 * (kind % 8)) % 256
+    record {
+      profile = p;
+      opcodes = ordinary_set p.edition;
+      readable = cond (eqb p.stage 0) (bit_and p.counts 0xffffff) (bit_and p.counts 0xff00ffff00);
+      writable = cond (eqb p.stage 0) (bit_and p.counts 0xffffff0000) (bit_and p.counts 0xff0000ffff0000);
+      indexing = cond (eqb p.stage 0) (bit_and p.counts 0xffffff) 0;
+    }
 
 abbrev pub is_source : OperandShape → Bool
 is_source Unused = false
@@ -81,14 +77,14 @@ is_lawful_matrix u f =
     && is_lawful_source u.readable true (row_count2 f.opcode) f.source2
     && eqb (value_of layout.swizzle f.source2) 0xe4)
 
-unfoldable pub is_lawful_tex : Profile → Usable → Fields → Bool
-is_lawful_tex p u f =
+unfoldable pub is_lawful_tex : Usable → Fields → Bool
+is_lawful_tex u f =
     cond (eqb f.opcode tex)
     (is_lawful_destination u.writable f.opcode f.destination
     && is_lawful_source u.readable true 1 f.source1
-    && eqb p.stage 1
+    && eqb u.profile.stage 1
     && not (is_stray (operand_bits Sampler) f.source2)
-    && not (sampler_wrong (count_in p) (sampler_of f.source2)))
+    && not (sampler_wrong (count_in u.profile) (sampler_of f.source2)))
     false
 
 -- all four selectors are the first one
@@ -96,10 +92,10 @@ abbrev pub repeats_first : ℕ → Bool
 repeats_first swizzle = eqb (swizzle % 4 * 0x55) swizzle
 
 -- with such a direct source, and nothing else
-unfoldable pub is_lawful_kil : Profile → Usable → Fields → Bool
-is_lawful_kil p u f =
+unfoldable pub is_lawful_kil : Usable → Fields → Bool
+is_lawful_kil u f =
     cond (eqb f.opcode kil)
-    (eqb p.stage 1 && eqb f.destination 0 && eqb f.source2 0
+    (eqb u.profile.stage 1 && eqb f.destination 0 && eqb f.source2 0
     && is_lawful_source u.readable true 1 f.source1
     && repeats_first (value_of layout.swizzle f.source1))
     false
@@ -114,19 +110,15 @@ is_lawful_indexed u f =
     && (eqb (row_count2 f.opcode) 1 || eqb (value_of layout.swizzle f.source2) 0xe4))
 
 -- an opener, each source indexed or direct; els or eif with no source
-unfoldable pub is_lawful_branch : Profile → Usable → Fields → Bool
-is_lawful_branch p u f =
+unfoldable pub is_lawful_branch : Usable → Fields → Bool
+is_lawful_branch u f =
     cond (not (is_branch f.opcode)) false
     (cond (is_opener f.opcode)
-    (not (eqb p.edition 1) && eqb f.destination 0 && is_lawful_either u true 1 f.source1 && is_lawful_either u true 1 f.source2)
-    (not (eqb p.edition 1) && eqb f.destination 0 && eqb f.source1 0 && eqb f.source2 0))
+    (not (eqb u.profile.edition 1) && eqb f.destination 0 && is_lawful_either u true 1 f.source1 && is_lawful_either u true 1 f.source2)
+    (not (eqb u.profile.edition 1) && eqb f.destination 0 && eqb f.source1 0 && eqb f.source2 0))
 
 -- ---- what the answer "yes" means: the token is lawful
 
--- in each edition and stage that has these opcodes and registers
-abbrev pub LawfulWith : Usable → Fields → Type 0
+-- in each edition and stage that these are of
+unfoldable pub LawfulWith : Usable → Fields → Type 0
 LawfulWith usable f = (edition stage : ℕ) → usable ≡ usable_of (profile_of edition stage) → Lawful edition stage f
-
--- in the edition and stage of a profile
-abbrev pub LawfulUnder : Profile → Usable → Fields → Type 0
-LawfulUnder profile usable f = (edition stage : ℕ) → profile ≡ profile_of edition stage → usable ≡ usable_of profile → Lawful edition stage f

@@ -8,4 +8,4 @@ pub returns : goal.returns
 unfolding kil_may_read_unwritten
 returns c =
     let a = c.args in
-    with_meaning (λ r. KilReads r a.current a.f) _ (kil_may_read_unwritten a.current a.f) c.direct_lacks.ensures (kil_reads a.current a.f)
+    with_meaning (λ r. KilReads r a.current a.f) _ (kil_may_read_unwritten a.current a.f) c.lacks_direct.ensures (kil_reads a.current a.f)

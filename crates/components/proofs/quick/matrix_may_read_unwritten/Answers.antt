@@ -12,7 +12,7 @@ returns c =
     simp (
       c.lacks_some.ensures,
       c.rows2.ensures,
-      c.direct_lacks.ensures,
+      c.lacks_direct.ensures,
       c.selectors1-first.ensures,
       c.unpack_register-register.ensures,
     )

@@ -34,9 +34,9 @@ returns c =
     let a = c.args in
     with_meaning (λ r. OrdinaryReads r a.current a.f) _ (may_read_unwritten a.current a.f) (
     simp (
-      c.direct_lacks.ensures,
+      c.lacks_direct.ensures,
       c.selectors2-second.ensures,
-      c.direct_lacks-first_lacks.ensures,
+      c.lacks_direct-first_lacks.ensures,
       c.selectors1-first.ensures,
       c.unpack_register-register.ensures,
     )

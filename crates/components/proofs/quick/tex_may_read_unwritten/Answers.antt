@@ -9,5 +9,5 @@ unfolding tex_may_read_unwritten
 returns c =
     let a = c.args in
     with_meaning (λ r. TexReads r a.current a.f) _ (tex_may_read_unwritten a.current a.f) (
-    simp (c.direct_lacks.ensures, c.coordinates-first.ensures, c.unpack_sampler-sampler.ensures)
+    simp (c.lacks_direct.ensures, c.coordinates.ensures, c.unpack_sampler-sampler.ensures)
     ) (tex_reads a.current a.f)

@@ -1,7 +1,9 @@
 -- The goals of `selectors1` that the check leaves.
 use mathlib.Core.Path.{sym, ap}
 use mathlib.Core.Bool.{not}
-use borrow.Author.Tests.{eq-eqb, ne_eqb}
+use native.Mathlib.Omega.{arith}
+use borrow.Author.Tests.{ne_eqb}
+use Rattle.layout.specs.Opcodes.{kil, tex}
 use Rattle.layout.specs.computed.Sets.{selector_set1}
 use Rattle.layout.specs.Selections.{by_three1, by_four1}
 use Rattle.layout.proofs.OpcodeSets.{listed_as, by_mask}
@@ -19,32 +21,20 @@ unfolding selector_set1
 returns-then-among-2 c =
     simp (listed_as _ _ c.among-2.ensures c.if-among.false by_three1 tt tt, listed_as _ _ c.among-3.ensures c.if-among-2.true by_four1 tt tt)
 
-pub returns-then-opcode-eq-KIL : goal.returns-then-opcode-eq-KIL
+pub returns-in-39 : goal.returns-in-39
 unfolding selector_set1
-returns-then-opcode-eq-KIL c =
-    simp (
-      listed_as _ _ c.among-2.ensures c.if-among.false by_three1 tt tt,
-      listed_as _ _ c.among-3.ensures c.if-among-2.false by_four1 tt tt,
-      eq-eqb _ _ c.if-opcode-eq-KIL.true,
-    )
+returns-in-39 c = rw c.in-39.is
 
-pub returns-then-opcode-eq-TEX : goal.returns-then-opcode-eq-TEX
+pub returns-in-40 : goal.returns-in-40
 unfolding selector_set1
-returns-then-opcode-eq-TEX c =
-    simp (
-      listed_as _ _ c.among-2.ensures c.if-among.false by_three1 tt tt,
-      listed_as _ _ c.among-3.ensures c.if-among-2.false by_four1 tt tt,
-      ne_eqb _ _ c.if-opcode-eq-KIL.false,
-      eq-eqb _ _ c.if-opcode-eq-TEX.true,
-      c.coordinates.ensures,
-    )
+returns-in-40 c = rw (c.in-40.is, c.coordinates.ensures)
 
-pub returns : goal.returns
+pub returns-in_default : goal.returns-in_default
 unfolding selector_set1
-returns c =
+returns-in_default c =
     simp (
       listed_as _ _ c.among-2.ensures c.if-among.false by_three1 tt tt,
       listed_as _ _ c.among-3.ensures c.if-among-2.false by_four1 tt tt,
-      ne_eqb _ _ c.if-opcode-eq-KIL.false,
-      ne_eqb _ _ c.if-opcode-eq-TEX.false,
+      ne_eqb c.args.opcode kil (λ e. omega arith),
+      ne_eqb c.args.opcode tex (λ e. omega arith),
     )

@@ -11,9 +11,9 @@ returns-then-among c = rw (listed_as _ _ c.among.ensures c.if-among.true by_thre
 pub returns-then-among-2 : goal.returns-then-among-2
 unfolding selector_set2
 returns-then-among-2 c =
-    rw (listed_as _ _ c.among.ensures c.if-among.false by_three2 tt tt, listed_as _ _ c.among-2.ensures c.if-among-2.true by_four2 tt tt)
+    rw (listed_as _ _ c.among.ensures c.if-among.false by_three2 tt tt, listed_as _ _ c.among-else-among.ensures c.if-among-2.true by_four2 tt tt)
 
-pub returns : goal.returns
+pub returns-else-among-2 : goal.returns-else-among-2
 unfolding selector_set2
-returns c =
-    rw (listed_as _ _ c.among.ensures c.if-among.false by_three2 tt tt, listed_as _ _ c.among-2.ensures c.if-among-2.false by_four2 tt tt)
+returns-else-among-2 c =
+    rw (listed_as _ _ c.among.ensures c.if-among.false by_three2 tt tt, listed_as _ _ c.among-else-among.ensures c.if-among-2.false by_four2 tt tt)

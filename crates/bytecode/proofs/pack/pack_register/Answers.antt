@@ -1,7 +1,0 @@
--- The goals of `pack_register` that the check leaves.
-use Rattle.bytecode.specs.Encode.{register_field}
-use Rattle.bytecode.proofs.pack.pack_register.Goals as goal
-
-pub returns : goal.returns
-unfolding register_field
-returns c = simp (c.placed-kind.ensures, c.placed-mask.ensures, c.placed-number.ensures)
