@@ -27,7 +27,6 @@ use Rattle.faults.specs.computed.Faults.{own_fault}
 use Rattle.faults.specs.computed.LawfulTests.{usable_of, is_lawful_kil, is_lawful_branch}
 use Rattle.faults.specs.computed.Profile.{profile_of}
 use Rattle.faults.specs.declared.lawful.Usable.{Usable}
-use Rattle.faults.specs.declared.profile.Profile.{Profile}
 use Rattle.faults.proofs.LawfulBranch.{LawfulBranch, lawful_branch}
 use Rattle.faults.proofs.LawfulKil.{lawful_kil}
 use Rattle.faults.proofs.LawfulToken.{ToldLawful, LawfulToken}
@@ -92,34 +91,34 @@ module _ (st : State) (sound : st.fault ≡ None) (token : ℕ) where
       reads Eif e l = written (met_state st Eif).current (λ o. cc)
 
 -- By a test that tells lawful tokens, with the test that goes with it of what they read: `told` and `asked` are what the code was answered.
-module _ (f : Fields) (test : Profile → Usable → Bool) (unwritten : Written → Fields → Bool)
-    (law : (edition stage : ℕ) → test (profile_of edition stage) (usable_of (profile_of edition stage)) ≡ true → LawfulToken edition stage unwritten f) where
-  pub passes_by : (profile : Profile) (usable : Usable) (told : Bool) → told ≡ test profile usable → told ≡ true
-      → (current : Written) (asked : Bool) → asked ≡ unwritten current f → IfSome (passed_unless asked current f) (Passes profile usable current f)
-  passes_by profile usable told tells holds current true asks = tt
-  passes_by profile usable told tells holds current false asks =
-      λ edition stage of used st sound at token.
-      let lawful = law edition stage (ap₂ test (sym of) (sym (used ∙ ap usable_of of)) ∙ sym tells ∙ holds) in
+module _ (f : Fields) (test : Usable → Bool) (unwritten : Written → Fields → Bool)
+    (law : (edition stage : ℕ) → test (usable_of (profile_of edition stage)) ≡ true → LawfulToken edition stage unwritten f) where
+  pub passes_by : (usable : Usable) (told : Bool) → told ≡ test usable → told ≡ true
+      → (current : Written) (asked : Bool) → asked ≡ unwritten current f → IfSome (passed_unless asked current f) (Passes usable current f)
+  passes_by usable told tells holds current true asks = tt
+  passes_by usable told tells holds current false asks =
+      λ edition stage used st sound at token.
+      let lawful = law edition stage (ap test (sym used) ∙ sym tells ∙ holds) in
       passes st sound token edition stage true (λ w. unwritten w f ≡ false) f lawful (ap (λ w. unwritten w f) at ∙ sym asks)
       ∙ ap (λ w. with_current st (written_by w (register_of f.destination))) at
 
 -- kil writes nothing, and leaves the set at hand
-pub passes_kil : (profile : Profile) (usable : Usable) (f : Fields) (told : Bool) → told ≡ is_lawful_kil profile usable f → told ≡ true
-    → (current : Written) (asked : Bool) → asked ≡ kil_may_read_unwritten current f → IfSome (then_some (not asked) current) (Passes profile usable current f)
-passes_kil profile usable f told tells holds current true asks = tt
-passes_kil profile usable f told tells holds current false asks =
-    λ edition stage of used st sound at token.
+pub passes_kil : (usable : Usable) (f : Fields) (told : Bool) → told ≡ is_lawful_kil usable f → told ≡ true
+    → (current : Written) (asked : Bool) → asked ≡ kil_may_read_unwritten current f → IfSome (then_some (not asked) current) (Passes usable current f)
+passes_kil usable f told tells holds current true asks = tt
+passes_kil usable f told tells holds current false asks =
+    λ edition stage used st sound at token.
     passes st sound token edition stage false (λ w. kil_may_read_unwritten w f ≡ false) f
-    (lawful_kil edition stage f (ap₂ (λ p u. is_lawful_kil p u f) (sym of) (sym (used ∙ ap usable_of of)) ∙ sym tells ∙ holds))
+    (lawful_kil edition stage f (ap (λ u. is_lawful_kil u f) (sym used) ∙ sym tells ∙ holds))
     (ap (λ w. kil_may_read_unwritten w f) at ∙ sym asks)
     ∙ ap (with_current st) at
 
 -- a branch that is lawful, in its place and reads nothing unwritten
-pub branch_known : (profile : Profile) (usable : Usable) (st : State) (f : Fields) (flow : Flow)
-    → is_lawful_branch profile usable f ≡ true → flow ≡ flow_of f.opcode → is_misplaced st flow ≡ false → opens_unwritten flow st.current f ≡ false
-    → KnownBranch profile usable st f flow
-branch_known profile usable st f flow lawful is m l edition stage of used sound token =
-    let p = lawful_branch edition stage f (ap₂ (λ p u. is_lawful_branch p u f) (sym of) (sym (used ∙ ap usable_of of)) ∙ lawful) in
+pub branch_known : (usable : Usable) (st : State) (f : Fields) (flow : Flow)
+    → is_lawful_branch usable f ≡ true → flow ≡ flow_of f.opcode → is_misplaced st flow ≡ false → opens_unwritten flow st.current f ≡ false
+    → KnownBranch usable st f flow
+branch_known usable st f flow lawful is m l edition stage used sound token =
+    let p = lawful_branch edition stage f (ap (λ u. is_lawful_branch u f) (sym used) ∙ lawful) in
     by_flow flow (goes_by st sound token edition stage f p flow (sym is) m l)
   where
     by_flow : (flow : Flow) {next : State} → next ≡ parted_state (met_state st flow) flow token → branch_step flow st token next
@@ -130,21 +129,21 @@ branch_known profile usable st f flow lawful is m l edition stage of used sound 
 
 -- ---- a run of tokens
 
-module _ (profile : Profile) (usable : Usable) (bytes : List ℕ) (first : ℕ) (from : Written) where
+module _ (usable : Usable) (bytes : List ℕ) (first : ℕ) (from : Written) where
   -- the steps from the first token of a run up to token n leave this set
   abbrev Reaches : ℕ → Written → Type 0
-  Reaches n current = Whenever profile usable from (λ p st. steps_over p bytes st first (n - first) ≡ with_current st current)
+  Reaches n current = Whenever usable from (λ p st. steps_over p bytes st first (n - first) ≡ with_current st current)
 
   pub run_none : Reaches first from
   unfolding steps_over
-  run_none edition stage of used st sound at =
+  run_none edition stage used st sound at =
       let none : first - first ≡ 0 = omega arith in
       ap (steps_over (profile_of edition stage) bytes st first) none ∙ ap (with_current st) at
 
   pub run_more : (n : ℕ) → first ≤ n → (current : Written) → Reaches n current
-      → (f : Fields) → f ≡ fields_of (token_at bytes n) → (next : Written) → Passes profile usable current f next → Reaches (n + 1) next
-  run_more n h current reached f read next passing edition stage of used st sound at =
+      → (f : Fields) → f ≡ fields_of (token_at bytes n) → (next : Written) → Passes usable current f next → Reaches (n + 1) next
+  run_more n h current reached f read next passing edition stage used st sound at =
       let p = profile_of edition stage in
       one_more p bytes st first n h
-      ∙ ap₂ (λ s g. step_of s p n g) (reached edition stage of used st sound at) (sym read)
-      ∙ passing edition stage of used (with_current st current) sound refl n
+      ∙ ap₂ (λ s g. step_of s p n g) (reached edition stage used st sound at) (sym read)
+      ∙ passing edition stage used (with_current st current) sound refl n

@@ -12,6 +12,8 @@ use Rattle.layout.specs.Programs.{token_at}
 use Rattle.layout.specs.declared.fields.Fields.{Fields}
 use Rattle.layout.specs.declared.opcodes.Flow.{Flow}
 use Rattle.components.specs.declared.written.Written.{Written}
+use Rattle.faults.specs.computed.LawfulTests.{usable_of}
+use Rattle.faults.specs.computed.Profile.{profile_of}
 use Rattle.faults.specs.declared.lawful.Usable.{Usable}
 use Rattle.faults.specs.declared.profile.Profile.{Profile}
 use Rattle.verifier.specs.computed.Glance.{Whenever, RunsOver, branch_step, KnownBranch, CanJudge}
@@ -26,7 +28,10 @@ pub none_met : (o : Option Refusal) → is_some o ≡ false → o ≡ None
 none_met None e = refl
 none_met (Some r) e = absurd (true≢false e)
 
-module _ (profile : Profile) (usable : Usable) (bytes : List ℕ) (count : ℕ) where
+module _ (usable : Usable) (bytes : List ℕ) (count : ℕ) where
+  abbrev profile : Profile
+  profile = usable.profile
+
   -- the state after all tokens
   abbrev last : State
   last = steps_over profile bytes start_state 0 count
@@ -44,19 +49,22 @@ module _ (profile : Profile) (usable : Usable) (bytes : List ℕ) (count : ℕ) 
   unfolding steps_over
   reached_last st n at h = let none : count - n ≡ 0 = omega arith in ap (steps_over profile bytes st n) (sym none) ∙ at.leads
 
-  module _ (can : CanJudge profile usable bytes count) where
+  module _ (can : CanJudge usable bytes count) where
+    made : usable ≡ usable_of (profile_of profile.edition profile.stage)
+    made = can.used ∙ ap usable_of can.made
+
     -- what is known at a glance holds of the state that is reached
-    pub known : (st : State) (n : ℕ) → Reached st n → (Holds : Profile → State → Type 0) → Whenever profile usable st.current Holds → Holds profile st
-    known st n at Holds told = subst (λ p. Holds p st) (sym can.made) (told profile.edition profile.stage can.made can.used st at.sound refl)
+    pub known : (st : State) (n : ℕ) → Reached st n → (Holds : Profile → State → Type 0) → Whenever usable st.current Holds → Holds profile st
+    known st n at Holds told = subst (λ p. Holds p st) (sym can.made) (told profile.edition profile.stage made st at.sound refl)
 
     -- so of the step at the token of a branch
-    pub known_step : (st : State) (n : ℕ) → Reached st n → (f : Fields) (flow : Flow) → KnownBranch profile usable st f flow
+    pub known_step : (st : State) (n : ℕ) → Reached st n → (f : Fields) (flow : Flow) → KnownBranch usable st f flow
         → branch_step flow st n (step_of st profile n f)
     known_step st n at f flow told =
-        subst (λ p. branch_step flow st n (step_of st p n f)) (sym can.made) (told profile.edition profile.stage can.made can.used at.sound n)
+        subst (λ p. branch_step flow st n (step_of st p n f)) (sym can.made) (told profile.edition profile.stage made at.sound n)
 
     -- after a run of tokens that are passed at a glance
-    pub after_run : (before : State) (first : ℕ) → Reached before first → (r : Run) → RunsOver profile usable before.current bytes first count r
+    pub after_run : (before : State) (first : ℕ) → Reached before first → (r : Run) → RunsOver usable before.current bytes first count r
         → (current : Written) → current ≡ r.current → Reached (with_current before current) r.token
     after_run before first at r over current same =
         record {

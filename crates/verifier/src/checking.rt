@@ -10,7 +10,6 @@ use crate::answers::Program;
 use crate::state::State;
 use crate::{glance, places, state};
 use bytecode::answers::Refusal;
-use components::written;
 use faults::lawful::Usable;
 use faults::profile::Profile;
 use layout::opcodes;
@@ -20,10 +19,7 @@ use layout::opcodes::Flow;
 pub fn check(edition: u32, bytes: &[u8]) -> Result<Program, Refusal>
     ensures { Checks edition bytes.now result }
 {
-    let fault = faults::header_fault(edition, bytes);
-    if fault.number != 0 {
-        return Err(fault);
-    }
+    faults::header_fault(edition, bytes)?;
     if opens_unlisted(bytes) {
         return Err(bytecode::refusal(9, 0, 0));
     }
@@ -45,7 +41,7 @@ fn opens_unlisted(bytes: &[u8]) -> bool
 }
 
 // Faults 9 to 22 of a program that has a header.
-#[tactic(auto, unfolding(crate::specs::computed::Steps::judged_by))]
+#[tactic(auto, unfolding(crate::specs::computed::Steps::judged_by, faults::specs::computed::LawfulTests::usable_of))]
 fn check_tokens(edition: u32, bytes: &[u8]) -> Result<Program, Refusal>
     requires in_bounds { 7 ≤ length bytes.now }
     requires bytes_bound { token_count bytes.now < 65536 }
@@ -53,30 +49,29 @@ fn check_tokens(edition: u32, bytes: &[u8]) -> Result<Program, Refusal>
 {
     let stage = bytes[6];
     let count = (bytes.len() - 7) / 24;
-    let profile = faults::profile_of(edition, stage);
-    let usable = faults::usable_of(profile);
-    last_state(profile, usable, bytes, count).finish(stage, count)
+    let usable = Usable::of(Profile::of(edition, stage));
+    last_state(usable, bytes, count).finish(stage, count)
 }
 
 // The state after so many tokens, or after the first of them that has a fault: a run of tokens at a glance, then one token by itself, until
 // there is none left. The tokens are counted by hand, since a run takes any number of them. The branch that a known opener puts away and a
 // known eif takes up again is stored and read here, in its place: a method that took the array would copy it. For the same reason a refused
 // state is handed back before it is assigned.
-fn last_state(profile: Profile, usable: Usable, bytes: &[u8], count: usize) -> State
-    requires { CanJudge profile usable bytes.now count }
-    ensures { result ≡ steps_over profile bytes.now start_state 0 count }
+fn last_state(usable: Usable, bytes: &[u8], count: usize) -> State
+    requires { CanJudge usable bytes.now count }
+    ensures { result ≡ steps_over usable.profile bytes.now start_state 0 count }
 {
     let mut state = state::START;
     let mut token = 0;
     loop {
-        let run = glance::pass_tokens(profile, usable, state.current, bytes, token, count);
-        state.current = written::by_halves(run.current);
+        let run = glance::pass_tokens(usable, state.current, bytes, token, count);
+        state.current = run.current.by_halves();
         token = run.token + 1;
         if count < token {
             return state;
         }
         let f = places::fields_at(bytes, run.token);
-        match state.known_branch(profile, usable, f) {
+        match state.known_branch(usable, f) {
             Flow::Opener => {
                 state.around[state.slot()] = state.innermost;
                 state = state.entered(run.token as u16);
@@ -87,7 +82,7 @@ fn last_state(profile: Profile, usable: Usable, bytes: &[u8], count: usize) -> S
                 state = state.closed(around);
             }
             Flow::Plain => {
-                let next = state.step(profile, run.token as u16, f);
+                let next = state.step(usable.profile, run.token as u16, f);
                 if next.fault.is_some() {
                     return next;
                 }

@@ -8,7 +8,6 @@ use crate::{places, state};
 use components::quick;
 use components::written::Written;
 use faults::lawful::Usable;
-use faults::profile::Profile;
 use layout::fields::Fields;
 use layout::opcodes;
 use layout::opcodes::Flow;
@@ -23,7 +22,6 @@ pub struct Run {
 // Passes tokens that are no branches, one after the other, as long as each is known to have no fault. They leave branches alone, so the set
 // at hand is all of the state that they touch.
 pub(crate) fn pass_tokens(
-    profile: Profile,
     usable: Usable,
     from: Written,
     bytes: &[u8],
@@ -32,12 +30,12 @@ pub(crate) fn pass_tokens(
 ) -> Run
     requires first_le_count { first ≤ count }
     requires count_in_bounds { 7 + count * 24 ≤ length bytes.now }
-    ensures { RunsOver profile usable from bytes.now first count result }
+    ensures { RunsOver usable from bytes.now first count result }
 {
     let mut current = from;
     for token in first..count {
         let f = places::fields_at(bytes, token);
-        let Some(next) = pass(profile, usable, current, f) else {
+        let Some(next) = pass(usable, current, f) else {
             return Run { current, token };
         };
         current = next;
@@ -49,8 +47,8 @@ pub(crate) fn pass_tokens(
 }
 
 // The set after a token, where the token is known to have no fault.
-fn pass(profile: Profile, usable: Usable, current: Written, f: Fields) -> Option<Written>
-    ensures { IfSome result (Passes profile usable current f) }
+fn pass(usable: Usable, current: Written, f: Fields) -> Option<Written>
+    ensures { IfSome result (Passes usable current f) }
 {
     // Branches end a run; they are told first, since none of the tests below passes them.
     if opcodes::is_branch(f.opcode) {
@@ -58,21 +56,21 @@ fn pass(profile: Profile, usable: Usable, current: Written, f: Fields) -> Option
     }
     // D is the same bit of both fields, so one test asks for both. Of a sampler it is a bit of the filter, which no right sampler has set.
     if layout::is_indexed(f.source1 | f.source2) {
-        if faults::is_lawful_indexed(usable, f) {
+        if usable.is_lawful_indexed(f) {
             return passed_unless(quick::indexed_may_read_unwritten(current, f), current, f);
         }
         return None;
     }
-    if faults::is_lawful(usable, f) {
+    if usable.is_lawful(f) {
         return passed_unless(quick::may_read_unwritten(current, f), current, f);
     }
-    if faults::is_lawful_matrix(usable, f) {
+    if usable.is_lawful_matrix(f) {
         return passed_unless(quick::matrix_may_read_unwritten(current, f), current, f);
     }
-    if faults::is_lawful_tex(profile, usable, f) {
+    if usable.is_lawful_tex(f) {
         return passed_unless(quick::tex_may_read_unwritten(current, f), current, f);
     }
-    if faults::is_lawful_kil(profile, usable, f) {
+    if usable.is_lawful_kil(f) {
         // It writes nothing.
         return (!quick::kil_may_read_unwritten(current, f)).then_some(current);
     }
@@ -92,10 +90,10 @@ fn passed_unless(unwritten: bool, current: Written, f: Fields) -> Option<Written
 
 impl State {
     // What a token of a branch does to the state, where it is known to have no fault; Plain where that is not known, or it is no branch.
-    pub(crate) fn known_branch(&self, profile: Profile, usable: Usable, f: Fields) -> Flow
-        ensures { KnownBranch profile usable self.now f result }
+    pub(crate) fn known_branch(&self, usable: Usable, f: Fields) -> Flow
+        ensures { KnownBranch usable self.now f result }
     {
-        if !faults::is_lawful_branch(profile, usable, f) {
+        if !usable.is_lawful_branch(f) {
             return Flow::Plain;
         }
         let flow = opcodes::flow_of(f.opcode);

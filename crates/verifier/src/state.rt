@@ -6,7 +6,6 @@ ghost use Rattle.std.specs.Prelude.{cond, ◌≡◌, ◌<◌};
 ghost use Rattle.verifier.specs.computed.State.{slot_of, slot_around, is_misplaced, set_met, with_fault, exchanged_state, closed_state, joined_state, met_state, entered_state, opened_state, parted_state, written_by, wrote_state};
 
 use bytecode::answers::Refusal;
-use components::written;
 use components::written::Written;
 use layout::opcodes::Flow;
 use layout::record::MaskedRegister;
@@ -30,17 +29,15 @@ pub struct State {
     pub fault: Option<Refusal>,
 }
 
-const NONE_WRITTEN: Written = Written { low: 0, high: 0 };
-
 const NO_BRANCH: Branch = Branch {
-    kept: NONE_WRITTEN,
+    kept: Written::EMPTY,
     opener: 0,
     els_met: false,
 };
 
 // Before the first token nothing is written, no branch is open and there is no fault.
 pub const START: State = State {
-    current: NONE_WRITTEN,
+    current: Written::EMPTY,
     innermost: NO_BRANCH,
     depth: 0,
     around: [NO_BRANCH; 16],
@@ -81,7 +78,7 @@ impl State {
         match flow {
             Flow::Plain | Flow::Opener => self.current,
             Flow::Els => self.innermost.kept,
-            Flow::Eif => written::join(self.current, self.innermost.kept),
+            Flow::Eif => self.current.join(self.innermost.kept),
         }
     }
 
@@ -108,8 +105,8 @@ impl State {
     pub(crate) fn exchanged(mut self) -> State
         ensures { result ≡ exchanged_state self }
     {
-        let current = written::by_halves(self.current);
-        self.current = written::by_halves(self.innermost.kept);
+        let current = self.current.by_halves();
+        self.current = self.innermost.kept.by_halves();
         self.innermost = Branch {
             kept: current,
             opener: self.innermost.opener,
@@ -130,9 +127,9 @@ impl State {
     pub(crate) fn closed(mut self, around: Branch) -> State
         ensures { result ≡ closed_state self around }
     {
-        self.current = written::join(self.current, self.innermost.kept);
+        self.current = self.current.join(self.innermost.kept);
         self.innermost = Branch {
-            kept: written::by_halves(around.kept),
+            kept: around.kept.by_halves(),
             ..around
         };
         self.depth = self.slot();
@@ -162,7 +159,7 @@ impl State {
         ensures { result ≡ entered_state self token }
     {
         self.innermost = Branch {
-            kept: written::by_halves(self.current),
+            kept: self.current.by_halves(),
             opener: token,
             els_met: false,
         };
@@ -186,7 +183,7 @@ pub(crate) fn written_by(current: Written, register: MaskedRegister) -> Written
     ensures { result ≡ written_by current register }
 {
     let mask = temporary_mask(register.kind == 2, register.mask);
-    written::mark(current, register.number, mask)
+    current.mark(register.number, mask)
 }
 
 fn temporary_mask(temporary: bool, mask: u8) -> u8

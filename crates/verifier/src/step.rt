@@ -1,11 +1,11 @@
 // One token: the state after it, with the token's first fault where it has one.
 ghost use Rattle.std.specs.Prelude.{◌≡◌};
-ghost use Rattle.bytecode.specs.Decode.{outcome as outcome_of};
 ghost use Rattle.verifier.specs.computed.Step.{first_of, made_of, fault_of_fields, paths_fault, step_of};
 
 use crate::state::State;
 use bytecode::answers::Refusal;
 use components::access;
+use components::access::Source;
 use faults::profile::Profile;
 use layout::fields::{Fields, RawToken};
 use layout::opcodes;
@@ -49,10 +49,10 @@ impl State {
             return Err(bytecode::refusal(20, token as usize, 0));
         }
         let met = self.set_met(flow);
-        if access::reads_unwritten1(met, raw.shape, raw.fields) {
+        if access::reads_unwritten(met, raw, Source::First) {
             return Err(bytecode::refusal(21, token as usize, 2));
         }
-        if access::reads_unwritten2(met, raw.shape, raw.fields) {
+        if access::reads_unwritten(met, raw, Source::Second) {
             return Err(bytecode::refusal(21, token as usize, 3));
         }
         Ok(())
@@ -60,23 +60,16 @@ impl State {
 }
 
 // The first of faults 9 to 19.
-#[tactic(auto, unfolding(crate::specs::computed::Step::fault_of_fields))]
+#[tactic(auto, using(bytecode::proofs::DecodeLaws::not_clean), unfolding(crate::specs::computed::Step::fault_of_fields))]
 fn fault_of_fields(profile: Profile, token: u16, raw: RawToken) -> Result<(), Refusal>
     ensures { result ≡ fault_of_fields profile token raw }
 {
-    if bytecode::is_clean(raw.shape, raw.fields) {
-        return outcome(faults::own_fault(profile, token as usize, raw.shape, raw.fields));
+    if bytecode::is_clean(raw) {
+        return profile.own_fault(token as usize, raw);
     }
-    let refused = bytecode::fault_of(raw.shape, raw.fields);
-    Err(faults::undecoded_fault(profile, token as usize, refused, raw.fields.opcode))
-}
-
-fn outcome(fault: Refusal) -> Result<(), Refusal>
-    ensures { result ≡ outcome_of fault }
-{
-    if fault.number == 0 {
-        Ok(())
-    } else {
-        Err(fault)
-    }
+    bytecode::fault_of(raw).map_err(|fault| profile.undecoded_fault(
+        token as usize,
+        fault,
+        raw.fields.opcode,
+    ))
 }

@@ -21,22 +21,21 @@ abbrev pub passed_unless : Bool → Written → Fields → Option Written
 passed_unless true current f = None
 passed_unless false current f = Some (written_by current (register_of f.destination))
 
--- what holds of every state without a fault whose set at hand is this, under the profile of an edition and a stage and what is usable there
-abbrev pub Whenever : Profile → Usable → Written → (Profile → State → Type 0) → Type 0
-Whenever profile usable current Holds =
-    (edition stage : ℕ) → profile ≡ profile_of edition stage → usable ≡ usable_of profile
+-- what holds of every state without a fault whose set at hand is this, under the profile that this is usable in
+abbrev pub Whenever : Usable → Written → (Profile → State → Type 0) → Type 0
+Whenever usable current Holds =
+    (edition stage : ℕ) → usable ≡ usable_of (profile_of edition stage)
     → (st : State) → st.fault ≡ None → st.current ≡ current → Holds (profile_of edition stage) st
 
 -- the step of the token, wherever it stands and whatever branches are open, leaves this set and changes nothing else
-abbrev pub Passes : Profile → Usable → Written → Fields → Written → Type 0
-Passes profile usable current f next =
-    Whenever profile usable current (λ p st. (token : ℕ) → step_of st p token f ≡ with_current st next)
+abbrev pub Passes : Usable → Written → Fields → Written → Type 0
+Passes usable current f next = Whenever usable current (λ p st. (token : ℕ) → step_of st p token f ≡ with_current st next)
 
 -- so do the steps of all tokens of a run
-pub record RunsOver (profile : Profile) (usable : Usable) (current : Written) (bytes : List ℕ) (first count : ℕ) (r : Run) : Type 0 where
+pub record RunsOver (usable : Usable) (current : Written) (bytes : List ℕ) (first count : ℕ) (r : Run) : Type 0 where
   pub from : first ≤ r.token
   pub to : r.token ≤ count
-  pub steps : Whenever profile usable current (λ p st. steps_over p bytes st first (r.token - first) ≡ with_current st r.current)
+  pub steps : Whenever usable current (λ p st. steps_over p bytes st first (r.token - first) ≡ with_current st r.current)
 
 -- the token of a branch reads what is not written; els and eif read nothing
 abbrev pub opens_unwritten : Flow → Written → Fields → Bool
@@ -53,14 +52,14 @@ branch_step Els st token next = next ≡ exchanged_state st
 branch_step Eif st token next = next ≡ joined_state st
 
 -- the step of a token of a branch from this state, wherever it stands, where the state has no fault
-abbrev pub KnownBranch : Profile → Usable → State → Fields → Flow → Type 0
-KnownBranch profile usable st f flow =
-    (edition stage : ℕ) → profile ≡ profile_of edition stage → usable ≡ usable_of profile
+abbrev pub KnownBranch : Usable → State → Fields → Flow → Type 0
+KnownBranch usable st f flow =
+    (edition stage : ℕ) → usable ≡ usable_of (profile_of edition stage)
     → st.fault ≡ None → (token : ℕ) → branch_step flow st token (step_of st (profile_of edition stage) token f)
 
--- what the tokens are judged with: a profile, what is usable in it, and so many tokens as there are at least and as can be counted
-pub record CanJudge (profile : Profile) (usable : Usable) (bytes : List ℕ) (count : ℕ) : Type 0 where
-  pub made : profile ≡ profile_of profile.edition profile.stage
-  pub used : usable ≡ usable_of profile
+-- what the tokens are judged with: what is usable in an edition and a stage, and so many tokens as there are at least and as can be counted
+pub record CanJudge (usable : Usable) (bytes : List ℕ) (count : ℕ) : Type 0 where
+  pub made : usable.profile ≡ profile_of usable.profile.edition usable.profile.stage
+  pub used : usable ≡ usable_of usable.profile
   pub there : 7 + count * 24 ≤ length bytes
   pub few : count < 65536

@@ -15,18 +15,18 @@ use Rattle.verifier.proofs.checking.last_state.Goals.{After-fields_at-f}
 abbrev st : After-fields_at-f → State
 st x = with_current x.loop-token.state x.by_halves-state.result
 
-at : (x : After-fields_at-f) → Reached x.args.profile x.args.usable x.args.bytes.now x.args.count (st x) x.pass_tokens-run.result.token
-at x = after_run _ _ _ _ x.requires _ _ x.loop-token.invariant _ x.pass_tokens-run.ensures _ x.by_halves-state.ensures
+at : (x : After-fields_at-f) → Reached x.args.usable x.args.bytes.now x.args.count (st x) x.pass_tokens-run.result.token
+at x = after_run _ _ _ x.requires _ _ x.loop-token.invariant _ x.pass_tokens-run.ensures _ x.by_halves-state.ensures
 
 -- the state after that token, where it has no fault
-goes : (x : After-fields_at-f) (next : State) → next ≡ step_of (st x) x.args.profile x.pass_tokens-run.result.token x.fields_at-f.result → next.fault ≡ None
-    → Reached x.args.profile x.args.usable x.args.bytes.now x.args.count next (x.pass_tokens-run.result.token + 1)
-goes x = after_step _ _ _ _ _ _ (at x) x.if-count-token.false _ x.fields_at-f.ensures
+goes : (x : After-fields_at-f) (next : State) → next ≡ step_of (st x) x.args.usable.profile x.pass_tokens-run.result.token x.fields_at-f.result → next.fault ≡ None
+    → Reached x.args.usable x.args.bytes.now x.args.count next (x.pass_tokens-run.result.token + 1)
+goes x = after_step _ _ _ _ _ (at x) x.if-count-token.false _ x.fields_at-f.ensures
 
 -- where its flow is known
-met : (x : After-fields_at-f) (flow : Flow) → KnownBranch x.args.profile x.args.usable (st x) x.fields_at-f.result flow
-    → branch_step flow (st x) x.pass_tokens-run.result.token (step_of (st x) x.args.profile x.pass_tokens-run.result.token x.fields_at-f.result)
-met x flow = known_step _ _ _ _ x.requires _ _ (at x) _ flow
+met : (x : After-fields_at-f) (flow : Flow) → KnownBranch x.args.usable (st x) x.fields_at-f.result flow
+    → branch_step flow (st x) x.pass_tokens-run.result.token (step_of (st x) x.args.usable.profile x.pass_tokens-run.result.token x.fields_at-f.result)
+met x flow = known_step _ _ _ x.requires _ _ (at x) _ flow
 
 pub loop-token-preserved-in-Opener : goal.loop-token-preserved-in-Opener
 loop-token-preserved-in-Opener c =
@@ -51,4 +51,4 @@ loop-token-preserved c =
 pub returns-then-is_some : goal.returns-then-is_some
 returns-then-is_some c =
     let x = (goal.at.returns-then-is_some c).After-fields_at-f in
-    refused_at _ _ _ _ _ _ (at x) x.if-count-token.false _ x.fields_at-f.ensures _ c.step-next.ensures (sym c.is_some.ensures ∙ c.if-is_some.true)
+    refused_at _ _ _ _ _ (at x) x.if-count-token.false _ x.fields_at-f.ensures _ c.step-next.ensures (sym c.is_some.ensures ∙ c.if-is_some.true)

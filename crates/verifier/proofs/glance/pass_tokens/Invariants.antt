@@ -6,5 +6,5 @@ use Rattle.verifier.proofs.glance.pass_tokens.Given as goal
 
 abbrev pub invariant-loop-token : goal.invariant-loop-token
 invariant-loop-token l =
-    Whenever l.profile l.usable l.initial.current
+    Whenever l.usable l.initial.current
     (λ p st. steps_over p l.bytes st l.first (l.token - l.first) ≡ with_current st l.current)
