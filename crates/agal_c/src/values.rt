@@ -1,9 +1,9 @@
 // The values of a destination or a source, whatever its kind: what the flat form has a place for.
 ghost use Rattle.std.specs.Prelude.{◌≡◌};
 ghost use Rattle.layout.specs.Records.{sampler_of};
-ghost use Rattle.agal_c.specs.Values.{sampler_values, destination_from, sampler_from, operand_from};
+ghost use Rattle.agal_c.specs.Values.{sampler_values, destination_from, indexed_from, sampler_from, operand_from};
 
-use layout::record::{DirectSource, IndexedSource, MaskedRegister, Operand, Sampler};
+use layout::record::{IndexedSource, MaskedRegister, Operand, Sampler};
 
 // `form` tells the cases of the record apart: 0 unused, 1 register or direct source, 2 indexed source, 3 sampler. The C header calls it the
 // kind, a word that is a register's type here. The values after the number stand in the order of the record; those that a case does not
@@ -58,23 +58,22 @@ pub(crate) fn operand_from(v: Values) -> Operand
 {
     match v.form {
         0 => Operand::Unused,
-        1 => Operand::Direct(DirectSource {
-            number: v.number,
-            offset: v.first,
-            swizzle: v.second,
-            kind: v.third,
-            index_kind: v.fourth,
-            component: v.fifth,
-        }),
-        2 => Operand::Indexed(IndexedSource {
-            number: v.number,
-            offset: v.first,
-            swizzle: v.second,
-            kind: v.third,
-            index_kind: v.fourth,
-            component: v.fifth,
-        }),
+        1 => Operand::Direct(indexed_from(v).into()),
+        2 => Operand::Indexed(indexed_from(v)),
         _ => Operand::Sampler(sampler_from(v)),
+    }
+}
+
+fn indexed_from(v: Values) -> IndexedSource
+    ensures { result ≡ indexed_from v }
+{
+    IndexedSource {
+        number: v.number,
+        offset: v.first,
+        swizzle: v.second,
+        kind: v.third,
+        index_kind: v.fourth,
+        component: v.fifth,
     }
 }
 

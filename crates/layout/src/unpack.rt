@@ -51,31 +51,23 @@ pub fn is_indexed(field: u64) -> bool
     bits::INDIRECT.byte_of(field) != 0
 }
 
+// A direct source has the same rows as an indexed one.
 pub fn unpack_direct(field: u64) -> DirectSource
     ensures { result ≡ direct_of field }
 {
-    DirectSource {
+    unpack_indexed(field).into()
+}
+
+pub fn unpack_indexed(field: u64) -> IndexedSource
+    ensures { result ≡ indexed_of field }
+{
+    IndexedSource {
         number: number_of(field),
         offset: bits::OFFSET.byte_of(field),
         swizzle: bits::SWIZZLE.byte_of(field),
         kind: bits::KIND.byte_of(field),
         index_kind: bits::INDEX_KIND.byte_of(field),
         component: bits::COMPONENT.byte_of(field),
-    }
-}
-
-// An indexed source has the same rows as a direct one.
-pub fn unpack_indexed(field: u64) -> IndexedSource
-    ensures { result ≡ indexed_of field }
-{
-    let same = unpack_direct(field);
-    IndexedSource {
-        number: same.number,
-        offset: same.offset,
-        swizzle: same.swizzle,
-        kind: same.kind,
-        index_kind: same.index_kind,
-        component: same.component,
     }
 }
 
