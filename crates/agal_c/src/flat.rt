@@ -66,6 +66,7 @@ fn put_token(raw: RawToken, out: &mut [u8])
     put_operand(out, 19, shape.source2, fields.source2);
 }
 
+// The flag is a byte of the flat form itself.
 fn put_destination(out: &mut [u8], used: bool, field: u64)
     requires in_bounds { 9 ≤ length out.old }
     requires field_value { is_stray (destination_bits used) field ≡ false }

@@ -116,6 +116,7 @@ fn dimension_of(raw: RawToken) -> u8
     }
 }
 
+// Three questions of a source's register, each with its own rows and components.
 impl Written {
     // An indexed source reads one component of its index register.
     pub(crate) fn lacks_index(self, field: u64) -> bool

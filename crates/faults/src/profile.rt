@@ -2,7 +2,7 @@
 ghost use Rattle.std.specs.Prelude.{◌≡◌};
 ghost use Rattle.faults.specs.computed.Profile.{profile_of, count_at, count_in};
 
-// Register counts stand by kind, eight bits each, so that one shift finds a count.
+// Register counts stand by kind, eight bits each, so that one shift finds a count. `of` answers every edition and stage, so both are numbers.
 #[derive(Clone, Copy)]
 pub struct Profile {
     pub edition: u32,

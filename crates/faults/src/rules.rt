@@ -9,7 +9,7 @@ use crate::profile::Profile;
 use layout::opcodes;
 use layout::record::{DirectSource, IndexedSource, MaskedRegister, Sampler};
 
-// The rules that ask what an edition gives a stage.
+// The rules that ask what an edition gives a stage, each a function under its number: 10 and 11 look alike, and are two rules.
 impl Profile {
     // 10
     pub(crate) fn opcode_too_new(self, opcode: u32) -> bool

@@ -6,7 +6,8 @@ ghost use Rattle.layout.specs.Swizzles.{bit_of, selector, components_of, selecto
 // The swizzle that names each component in its place.
 pub const XYZW: u8 = 0xe4;
 
-// Whether a mask has a component: bit 0 is x, bit 3 is w.
+// Whether a mask has a component: bit 0 is x, bit 3 is w. `opcodes::among` asks the same of 64 bits; one function for both would need a trait of
+// numbers and its laws, which is more than the two lines.
 pub fn mask_has(mask: u8, component: u8) -> bool
     ensures { result ≡ bit_of mask component }
 {

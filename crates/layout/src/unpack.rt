@@ -1,5 +1,5 @@
 // A record from the fields of a token: each value is read at its bits. Every field has the values of every kind of part; which kind it is
-// comes from the opcode.
+// comes from the opcode. That is why these are functions by name, and no `From<u64>`: a field alone doesn't say what it is the field of.
 ghost use Rattle.std.specs.Prelude.{◌≡◌};
 ghost use Rattle.layout.specs.Layout as layout;
 ghost use Rattle.layout.specs.Layout.{value_of};
@@ -9,6 +9,7 @@ use crate::bits;
 use crate::opcodes::OperandShape;
 use crate::record::{DirectSource, IndexedSource, MaskedRegister, Operand, Sampler};
 
+// Here a flag and the field beside it become an Option.
 pub fn unpack_destination(used: bool, field: u64) -> Option<MaskedRegister>
     ensures { result ≡ destination_of used field }
 {

@@ -10,7 +10,7 @@ use crate::stage::Stage;
 use crate::text::Writer;
 use bytecode::answers::Refusal;
 
-// An accepted program.
+// An accepted program. Any stage but 0 is written as a fragment program's (`heading_line`), so it is a number.
 #[derive(Clone, Copy)]
 pub struct Heading {
     pub edition: u16,

@@ -1,4 +1,5 @@
 // Which kinds of registers a program reads as direct sources, and which it writes. A whole program has one stage, so that is asked first.
+// Two lists of the format, each a function: kinds that both have stand in both.
 ghost use Rattle.std.specs.Prelude.{◌≡◌};
 ghost use Rattle.registers.specs.Uses.{is_readable, is_writable};
 

@@ -69,7 +69,7 @@ fn is_edition(digit: u8) -> bool
     matches!(digit, b'1'..=b'3')
 }
 
-// The edition that a digit names.
+// The edition that a digit names. Whether it names one is asked first, by itself, as the definition has it (`text_of`).
 fn edition_of(digit: u8) -> u16
     requires { (49 ≤ digit) × (digit ≤ 51) }
     ensures { result ≡ edition_of digit }

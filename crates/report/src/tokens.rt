@@ -120,7 +120,7 @@ impl Line {
         }
     }
 
-    // How many bytes put writes.
+    // How many bytes put writes: it is written to know. A text's length is known in no other way, so each of these three has its put beside it.
     fn length(self) -> usize
         ensures { Measured (line_of self.token self.stage self.depth) 128 result }
     {
@@ -140,7 +140,7 @@ fn token_at(bytes: &[u8], token: usize) -> Token
     }
 }
 
-// Els and eif stand at the depth of their opener.
+// Els and eif stand at the depth of their opener. What is open after a token is another count, told by other arms.
 fn shown_depth(opcode: u32, opened: u8) -> u8
     ensures { result ≡ shown_depth (flow_of opcode) opened }
 {

@@ -46,7 +46,8 @@ pub(crate) fn pass_tokens(
     }
 }
 
-// The set after a token, where the token is known to have no fault.
+// The set after a token, where the token is known to have no fault. Each test of a kind of token has its own question of what is read: a list of
+// both as closures would be run in this order all the same, and say no less.
 fn pass(usable: Usable, current: Written, f: Fields) -> Option<Written>
     ensures { IfSome result (Passes usable current f) }
 {

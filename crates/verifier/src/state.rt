@@ -52,7 +52,7 @@ impl State {
         (self.depth % 16 + 15) % 16
     }
 
-    // Where the branch around it stands.
+    // Where the branch around it stands: one place further back, and a definition of its own.
     pub(crate) fn slot_around(&self) -> usize
         ensures { (result ≡ slot_around self.now.depth) × (result < 16) }
     {
