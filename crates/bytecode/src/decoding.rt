@@ -46,12 +46,13 @@ pub fn is_clean(raw: RawToken) -> bool
     ensures { result ≡ is_clean raw.shape raw.fields }
 {
     let RawToken { shape, fields } = raw;
+    let destination = bits::destination_bits(shape.destination);
+    let source1 = bits::operand_bits(shape.source1);
+    let source2 = bits::operand_bits(shape.source2);
     shape.listed
-        && !(bits::is_stray(
-            bits::destination_bits(shape.destination),
-            fields.destination,
-        ) | bits::is_stray(bits::operand_bits(shape.source1), fields.source1)
-            | bits::is_stray(bits::operand_bits(shape.source2), fields.source2))
+        && !(bits::is_stray(destination, fields.destination)
+            | bits::is_stray(source1, fields.source1)
+            | bits::is_stray(source2, fields.source2))
 }
 
 // A field with no defined bits is unused, and must be 0.
@@ -73,13 +74,13 @@ fn lowest_part<F: Fn(u64, u64) -> bool>(raw: RawToken, is_at_fault: F) -> Option
     ensures { LowestPart (F.post is_at_fault) raw.shape raw.fields result }
 {
     let RawToken { shape, fields } = raw;
+    let destination = bits::destination_bits(shape.destination);
+    let source1 = bits::operand_bits(shape.source1);
+    let source2 = bits::operand_bits(shape.source2);
     lowest(
-        is_at_fault(
-            bits::destination_bits(shape.destination),
-            fields.destination,
-        ),
-        is_at_fault(bits::operand_bits(shape.source1), fields.source1),
-        is_at_fault(bits::operand_bits(shape.source2), fields.source2),
+        is_at_fault(destination, fields.destination),
+        is_at_fault(source1, fields.source1),
+        is_at_fault(source2, fields.source2),
     )
 }
 
