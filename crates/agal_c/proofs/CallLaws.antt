@@ -1,64 +1,62 @@
 -- What the exported functions answer, from what the functions that they call answer.
 -- Assumes nothing.
-use Rattle.std.specs.Prelude.{Err, Ok, Result, ⊤}
+use Rattle.std.specs.Prelude.{Err, Ok, Result}
 use Prim.Native.Nat.{ℕ, ◌+◌, ◌*◌, ◌/◌, ◌%◌, ◌<◌, ◌≤◌}
-use mathlib.Core.Bool.{Bool, true, false, not, cond, false≢true, and-false}
+use mathlib.Core.Bool.{Bool, true, false, not, cond, and-false}
 use mathlib.Core.List.{List, [], ◌++◌}
 use mathlib.Core.Path.{◌≡◌, refl, ◌∙◌, sym, ap}
 use native.Mathlib.Omega.{arith}
 use lib.Dec.{eqb, ltb, lit<}
 use lib.ListN.{length, drop}
-use borrow.Author.Tests.{eq-eqb, ne_eqb, eqb-true, eqb-false, lt-ltb, le-ltb, lt-leb, ltb-false}
+use borrow.Author.Tests.{ne_eqb, eqb-false, lt-ltb, le-ltb, lt-leb, ltb-false}
 use Rattle.layout.specs.Opcodes.{shape_of}
 use Rattle.layout.specs.Records.{token_of}
 use Rattle.layout.specs.declared.opcodes.Shape.{Shape}
 use Rattle.layout.specs.declared.fields.Fields.{Fields}
+use Rattle.layout.specs.declared.fields.RawToken.{RawToken}
 use Rattle.bytecode.specs.Fields.{fields_of}
 use Rattle.bytecode.specs.computed.CleanFields.{fields_in, is_clean}
 use Rattle.bytecode.specs.Decode.{refusal, no_refusal, lowest_part, unused_part, undefined_part, token_fault, decode_fault, decode_of}
-use Rattle.bytecode.specs.Encode.{Encodes}
 use Rattle.layout.specs.declared.record.Token.{Token}
 use Rattle.bytecode.specs.declared.answers.Refusal.{Refusal}
-use Rattle.listing.specs.Line.{is_nameable, Lists}
+use Rattle.listing.specs.Line.{is_nameable}
 use Rattle.listing.proofs.LineLaws.{not_nameable}
-use Rattle.bytecode.proofs.DecodeLaws.{wrong_length, with_fault_lem, no_faults, clean_none, clean_by, not_clean}
+use Rattle.bytecode.proofs.DecodeLaws.{with_fault_lem, no_faults, clean_none, clean_by, not_clean}
 use Rattle.layout.specs.Programs.{token_start, no_token_left}
 use Rattle.reader.specs.Reading.{stands_at}
 use Rattle.reader.specs.computed.Steps.{token_bytes}
 use Rattle.agal_c.specs.Answers.{answered, refused}
 use Rattle.agal_c.specs.declared.answers.Answer.{Answer}
 use Rattle.agal_c.specs.Flat.{flat_of, is_flat, token_of_flat}
-use Rattle.agal_c.specs.Calls.{delivery_answer, delivered, encoded_answer, encode_answer, after_flat_encode, printed_answer, line_answer_of, after_flat_line}
-use Rattle.agal_c.specs.computed.Delivery.{outright_fault, delivery_code, code_answer}
+use Rattle.agal_c.specs.Calls.{delivery_answer, delivered, line_answer_of, after_flat_line}
+use Rattle.agal_c.specs.computed.Delivery.{delivery_code, code_answer}
 
 -- ---- what decode answers of 24 bytes, from their fields
 
-module _ (s : List ℕ) (whole : length s ≡ 24) (f : Fields) (k : Shape) (ef : f ≡ fields_in s) (ek : k ≡ shape_of f.opcode) where
-  its_fields : f ≡ fields_of s
+module _ (s : List ℕ) (whole : length s ≡ 24) {f : Fields} (ef : f ≡ fields_in s) {raw : RawToken}
+    (er : raw ≡ record { shape = shape_of f.opcode; fields = f }) where
+  its_fields : raw.fields ≡ fields_of s
   unfolding fields_in
-  its_fields = ef ∙ rw (le-ltb (length s) 24 (omega arith))
+  its_fields = ap (λ r. r.fields) er ∙ ef ∙ rw (le-ltb (length s) 24 (omega arith))
+
+  its_shape : raw.shape ≡ shape_of (fields_of s).opcode
+  its_shape = ap (λ r. r.shape) er ∙ ap (λ r. shape_of r.fields.opcode) (sym er) ∙ ap (λ g. shape_of g.opcode) its_fields
 
   -- the opcode is the only field that is looked at outright
-  pub opcode_told : (listed : Bool) → k.listed ≡ listed → cond listed 0 9 ≡ outright_fault s
-  unfolding outright_fault
-  opcode_told listed l =
-      let e = its_fields in
-      let r : (shape_of (fields_of s).opcode).listed ≡ listed = cc in
-      simp (eq-eqb (length s) 24 whole, r)
+  pub unlisted : raw.shape.listed ≡ false → decode_of s ≡ Err (refusal 9 0 0)
+  unfolding token_fault
+  unlisted l =
+      let r : (shape_of (fields_of s).opcode).listed ≡ false = sym (ap (λ k. k.listed) its_shape) ∙ l in
+      let told : token_fault (shape_of (fields_of s).opcode) (fields_of s) ≡ refusal 9 0 0 = rw r refl in
+      sym (with_fault_lem s whole (λ z. omega (arith, ap (λ r. r.number) told, z))).answer ∙ ap Err told
 
-  pub faulty : is_clean k f ≡ false → decode_of s ≡ Err (token_fault k f)
-  faulty q =
-      let e = its_fields in
-      let q' : is_clean (shape_of (fields_of s).opcode) (fields_of s) ≡ false = cc in
-      let r = (with_fault_lem s whole (not_clean _ _ q')).answer in
-      cc
+  pub faulty : is_clean raw.shape raw.fields ≡ false → decode_of s ≡ Err (token_fault raw.shape raw.fields)
+  faulty q = rw (its_shape, its_fields) (sym (with_fault_lem s whole (not_clean _ _ (rw (its_shape, its_fields) at q))).answer)
 
-  pub fine : is_clean k f ≡ true → decode_of s ≡ Ok (token_of k f)
+  pub fine : is_clean raw.shape raw.fields ≡ true → decode_of s ≡ Ok (token_of raw.shape raw.fields)
   fine q =
-      let e = its_fields in
-      let q' : is_clean (shape_of (fields_of s).opcode) (fields_of s) ≡ true = cc in
-      let r = (no_faults s whole (ap (λ r. r.number) (clean_none _ _ (clean_by _ _ q')))).answer in
-      cc
+      rw (its_shape, its_fields)
+      (sym (no_faults s whole (ap (λ r. r.number) (clean_none _ _ (clean_by _ _ (rw (its_shape, its_fields) at q))))).answer)
 
 -- ---- a token, into a lent buffer
 
@@ -106,7 +104,6 @@ fault_bytes s =
 -- both come back out of the number that they make
 fault_again : (number part place next : ℕ) → (number ≡ 0 → ⊥) → number < 256 → part < 256
     → code_answer (number + 256 * part) place next ≡ refused (refusal number place part) place
-unfolding code_answer
 fault_again number part place next n hn hp =
     let code = number + 256 * part in
     let en : code % 256 ≡ number = omega arith in
@@ -122,7 +119,7 @@ same_bytes place (Err r) buffer = refl
 module _ (s buffer : List ℕ) (place step : ℕ) where
   -- the number of a delivery stands for its answer
   code_again : code_answer (delivery_code (decode_of s) buffer) place (place + step) ≡ delivery_answer place step (stands_at place (decode_of s)) buffer
-  unfolding decode_of code_answer
+  unfolding decode_of
   code_again = go (eqb (decode_fault s).number 0) _ refl
     where
       by_room : (short : Bool) → code_answer (cond short 23 0) place (place + step) ≡ cond short (refused (refusal 23 place 0) place) (answered 0 (place + step))
@@ -144,34 +141,9 @@ module _ (s buffer : List ℕ) (place step : ℕ) where
 -- ---- the faults that are told outright
 
 module _ (s : List ℕ) where
-  pub not_whole : (length s ≡ 24 → ⊥) → 24 ≡ outright_fault s
-  unfolding outright_fault
-  not_whole n = simp (ne_eqb (length s) 24 n)
-
-  pub told_whole : outright_fault s ≡ 0 → length s ≡ 24
-  unfolding outright_fault
-  told_whole e = go (eqb (length s) 24) refl e
-    where
-      go : (whole : Bool) → eqb (length s) 24 ≡ whole → ◌≡◌ {A = ℕ} (cond whole (cond (shape_of (fields_of s).opcode).listed 0 9) 24) 0 → length s ≡ 24
-      go true w z = eqb-true (length s) 24 w
-      go false w z = absurd (omega (arith, z))
-
-  -- what is told outright is what decode answers
-  told : (outright_fault s ≡ 0 → ⊥) → decode_of s ≡ Err (refusal (outright_fault s) 0 0)
-  unfolding outright_fault token_fault
-  told n = go (eqb (length s) 24) (shape_of (fields_of s).opcode).listed refl refl n
-    where
-      go : (whole listed : Bool) → eqb (length s) 24 ≡ whole → (shape_of (fields_of s).opcode).listed ≡ listed → (◌≡◌ {A = ℕ} (cond whole (cond listed 0 9) 24) 0 → ⊥)
-          → decode_of s ≡ Err (refusal (cond whole (cond listed 0 9) 24) 0 0)
-      go false listed w l n = sym (wrong_length s (eqb-false (length s) 24 w)).answer
-      go true true w l n = absurd (n refl)
-      go true false w l n =
-          let r : token_fault (shape_of (fields_of s).opcode) (fields_of s) ≡ refusal 9 0 0 = rw l refl in
-          sym (with_fault_lem s (eqb-true (length s) 24 w) (λ z. omega (arith, ap (λ r. r.number) r, z))).answer ∙ ap Err r
-
-  pub told_outright : (buffer : List ℕ) (place step fault : ℕ) (r : Answer) → fault ≡ outright_fault s → (fault ≡ 0 → ⊥) → r ≡ refused (refusal fault place 0) place
+  pub told_outright : (buffer : List ℕ) (place step fault : ℕ) (r : Answer) → decode_of s ≡ Err (refusal fault 0 0) → r ≡ refused (refusal fault place 0) place
       → (r ≡ delivery_answer place step (stands_at place (decode_of s)) buffer) × (buffer ≡ delivered (stands_at place (decode_of s)) buffer)
-  told_outright buffer place step fault r e n h = rw (told (λ z. n (e ∙ z)), ← e) (h, refl)
+  told_outright buffer place step fault r e h = rw e (h, refl)
 
 -- a reader with a token's bytes before it stands within its program
 pub place_within : (bytes : List ℕ) (place : ℕ) → length (token_bytes bytes place) ≡ 24 → token_start place + 24 ≤ length bytes
@@ -184,47 +156,21 @@ place_within bytes place e = go (no_token_left bytes place) _ refl e
 
 -- ---- a flat form
 
-pub flat_long : (s : List ℕ) → is_flat s ≡ true → 29 ≤ length s
-unfolding is_flat
-flat_long s e = go (ltb (length s) 29) _ refl e
-  where
-    go : (short known : Bool) → ltb (length s) 29 ≡ short → cond short false known ≡ true → 29 ≤ length s
-    go true known l h = absurd (false≢true h)
-    go false known l h = ltb-false _ _ l
-
 module _ (flat buffer : List ℕ) where
-  module _ (e : is_flat flat ≡ false) where
-    pub not_encoded : (refused (refusal 25 0 0) 0 ≡ encode_answer flat buffer) × (buffer ≡ after_flat_encode flat buffer)
-    unfolding encode_answer after_flat_encode
-    not_encoded = (simp e, simp e)
-
-    pub not_listed : (stage depth : ℕ) → (refused (refusal 25 0 0) 0 ≡ line_answer_of flat stage depth buffer) × (buffer ≡ after_flat_line flat stage depth buffer)
-    unfolding line_answer_of after_flat_line
-    not_listed stage depth = (simp e, simp e)
-
   module _ (e : is_flat flat ≡ true) where
-    pub encoded : (t : Token) → t ≡ token_of_flat flat → (after : List ℕ) (r : Result ⊤ Refusal) → Encodes t buffer after r
-        → (encoded_answer r ≡ encode_answer flat buffer) × (after ≡ after_flat_encode flat buffer)
-    unfolding encode_answer after_flat_encode
-    encoded t g after r p = (simp (e, ← g, ← p.answer), simp (e, ← g, p.buffer))
-
-    pub listed : (stage depth : ℕ) (t : Token) → t ≡ token_of_flat flat → (after : List ℕ) (r : Result ℕ Refusal) → Lists t stage depth buffer after r
-        → (printed_answer r ≡ line_answer_of flat stage depth buffer) × (after ≡ after_flat_line flat stage depth buffer)
-    unfolding line_answer_of after_flat_line
-    listed stage depth t g after r p = (simp (e, ← g, ← p.answer), simp (e, ← g, p.buffer))
-
     -- a number above 255 is no stage and no depth
     no_name : (stage depth : ℕ) → is_nameable (token_of_flat flat) stage depth ≡ false
         → (refused (refusal 25 0 0) 0 ≡ line_answer_of flat stage depth buffer) × (buffer ≡ after_flat_line flat stage depth buffer)
     no_name stage depth h =
-        listed stage depth (token_of_flat flat) refl buffer (Err (refusal 25 0 0)) (not_nameable (token_of_flat flat) stage depth buffer h)
+        let p = not_nameable (token_of_flat flat) stage depth buffer h in
+        (simp (e, ← p.answer), simp e p.buffer)
 
-    pub no_stage : (stage depth : ℕ) → 255 < stage
+    pub no_stage : (stage depth : ℕ) → (stage < 256 → ⊥)
         → (refused (refusal 25 0 0) 0 ≡ line_answer_of flat stage depth buffer) × (buffer ≡ after_flat_line flat stage depth buffer)
     unfolding is_nameable
     no_stage stage depth h = no_name stage depth (simp (lt-leb stage 1 (omega arith), and-false))
 
-    pub no_depth : (stage depth : ℕ) → 255 < depth
+    pub no_depth : (stage depth : ℕ) → (depth < 256 → ⊥)
         → (refused (refusal 25 0 0) 0 ≡ line_answer_of flat stage depth buffer) × (buffer ≡ after_flat_line flat stage depth buffer)
     unfolding is_nameable
     no_depth stage depth h = no_name stage depth (simp (lt-leb depth 16 (omega arith), and-false))

@@ -45,13 +45,11 @@ bias_again (negsuc n) h = eq_z→eq _ _ (below (λ n. eq_z (signed (unsigned (ne
 -- whatever stands where a source has more values than a destination
 destination_again : (d : Option MaskedRegister) (a b c e f : ℕ)
     → (let v = destination_values d in destination_from (values v.form (v.number % 256 + 256 * (v.number / 256)) v.first v.second a b c e f)) ≡ d
-unfolding destination_from
 destination_again None a b c e f = refl
 destination_again (Some r) a b c e f = rw (number_again r.number) refl
 
 operand_again : (o : Operand) → BiasHeld o
     → (let v = operand_values o in operand_from (values v.form (v.number % 256 + 256 * (v.number / 256)) v.first v.second v.third v.fourth v.fifth v.sixth v.seventh)) ≡ o
-unfolding operand_from
 operand_again NoOperand h = refl
 operand_again (Direct s) h = rw (number_again s.number) refl
 operand_again (Indexed s) h = rw (number_again s.number) refl
@@ -74,7 +72,7 @@ made : (w : ℕ) (d : Option MaskedRegister) (a b : Operand) (t : Token) → w �
 made w d a b t p q r s = rw (p, q, r, s) refl
 
 flat_again : (t : Token) (rest : List ℕ) → is_flat (flat_of t ++ rest) ≡ true
-unfolding is_flat flat_of
+unfolding flat_of
 flat_again t rest =
     simp (
       le-ltb (length (flat_of t ++ rest)) 29 (omega arith),
@@ -84,9 +82,9 @@ flat_again t rest =
     )
 
 token_again : (t : Token) (rest : List ℕ) → t.opcode < 2 ^ 32 → BiasHeld t.source1 → BiasHeld t.source2 → token_of_flat (flat_of t ++ rest) ≡ t
-unfolding token_of_flat flat_of
+unfolding flat_of
 token_again t rest w h k =
-    made _ _ _ _ t (opcode_again t.opcode w) (destination_again t.destination _ _ _ _ _) (operand_again t.source1 h) (operand_again t.source2 k)
+    made _ _ _ _ t (opcode_again t.opcode w) (destination_again t.destination 0 0 0 0 0) (operand_again t.source1 h) (operand_again t.source2 k)
 
 pub read_back : ReadBack
 read_back = record { flat = flat_again; token = token_again }

@@ -2,8 +2,8 @@
 use Rattle.std.specs.Prelude.{ℕ, ◌+◌, cond, List, ◌++◌, ltb, length, drop, Err, Ok, Result, ⊤}
 use Rattle.bytecode.specs.Decode.{refusal}
 use Rattle.bytecode.specs.Encode.{encode_of, after_encode}
-use Rattle.bytecode.specs.declared.answers.Refusal.{Refusal}
 use Rattle.verifier.specs.declared.answers.Program.{Program}
+use Rattle.bytecode.specs.declared.answers.Refusal.{Refusal}
 use Rattle.layout.specs.declared.record.Token.{Token}
 use Rattle.listing.specs.Line.{line_answer, after_line}
 use Rattle.listing.specs.Printing.{printed_numbers}
@@ -37,10 +37,10 @@ encoded_answer (Ok tt) = answered 0 24
 encoded_answer (Err r) = refused r 0
 
 -- what is no flat form is 25, before any other test
-unfoldable pub encode_answer : List ℕ → List ℕ → Answer
+abbrev pub encode_answer : List ℕ → List ℕ → Answer
 encode_answer flat buffer = cond (is_flat flat) (encoded_answer (encode_of (token_of_flat flat) buffer)) (refused (refusal 25 0 0) 0)
 
-unfoldable pub after_flat_encode : List ℕ → List ℕ → List ℕ
+abbrev pub after_flat_encode : List ℕ → List ℕ → List ℕ
 after_flat_encode flat buffer = cond (is_flat flat) (after_encode (token_of_flat flat) buffer) buffer
 
 -- ---- line and report
@@ -49,9 +49,9 @@ after_flat_encode flat buffer = cond (is_flat flat) (after_encode (token_of_flat
 abbrev pub printed_answer : Result ℕ Refusal → Answer
 printed_answer r = numbers_answer (printed_numbers r)
 
-unfoldable pub line_answer_of : List ℕ → ℕ → ℕ → List ℕ → Answer
+abbrev pub line_answer_of : List ℕ → ℕ → ℕ → List ℕ → Answer
 line_answer_of flat stage depth buffer =
     cond (is_flat flat) (printed_answer (line_answer (token_of_flat flat) stage depth buffer)) (refused (refusal 25 0 0) 0)
 
-unfoldable pub after_flat_line : List ℕ → ℕ → ℕ → List ℕ → List ℕ
+abbrev pub after_flat_line : List ℕ → ℕ → ℕ → List ℕ → List ℕ
 after_flat_line flat stage depth buffer = cond (is_flat flat) (after_line (token_of_flat flat) stage depth buffer) buffer

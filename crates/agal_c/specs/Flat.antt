@@ -27,7 +27,7 @@ flat_of t =
 -- ---- read
 
 -- 29 bytes or more, and forms that there are
-unfoldable pub is_flat : List ℕ → Bool
+abbrev pub is_flat : List ℕ → Bool
 is_flat s = cond (ltb (length s) 29) false (leb (get_or s 4 0) 1 && leb (get_or s 9 0) 3 && leb (get_or s 19 0) 3)
 
 -- the values that begin at a place; of a destination's, those after its register type aren't looked at
@@ -37,7 +37,7 @@ values_at s at =
     (get_or s (at + 3) 0) (get_or s (at + 4) 0) (get_or s (at + 5) 0) (get_or s (at + 6) 0)
     (get_or s (at + 7) 0) (get_or s (at + 8) 0) (get_or s (at + 9) 0)
 
-unfoldable pub token_of_flat : List ℕ → Token
+abbrev pub token_of_flat : List ℕ → Token
 token_of_flat s =
     record {
       opcode = word_at s 0;

@@ -36,7 +36,7 @@ operand_values (Sampled s) = sampler_values s
 
 -- ---- to a record; a value that it does not have is not looked at
 
-unfoldable pub destination_from : Values → Option MaskedRegister
+abbrev pub destination_from : Values → Option MaskedRegister
 destination_from v =
     cond (eqb v.form 0) None
     (Some (record { number = v.number; mask = v.first; kind = v.second }))
@@ -76,7 +76,7 @@ sampler_from v =
       filter = v.seventh;
     }
 
-unfoldable pub operand_from : Values → Operand
+abbrev pub operand_from : Values → Operand
 operand_from v =
     cond (eqb v.form 0) NoOperand
     (cond (eqb v.form 1) (Direct (direct_from v))

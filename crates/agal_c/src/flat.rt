@@ -1,69 +1,69 @@
 // The flat form of a record: 29 bytes that C can hold. The opcode has 4, the destination 5, each source 10. Numbers of more than one byte
 // have their lowest byte first.
-ghost use Rattle.std.specs.Prelude.{◌+◌, ◌*◌, ◌≤◌, ◌≡◌, true, false, cond, ◌++◌, length, drop};
+ghost use Rattle.std.specs.Prelude.{◌+◌, ◌*◌, ◌≤◌, ◌≡◌, true, false, cond, ◌++◌, length, drop, IfNone, IfSome, Err};
 ghost use Rattle.layout.specs.Layout.{source_rows, defined_bits, destination_bits, operand_bits, is_stray};
 ghost use Rattle.layout.specs.Records.{destination_of, operand_of, token_of};
-ghost use Rattle.bytecode.specs.Decode.{decode_of};
+ghost use Rattle.bytecode.specs.Decode.{refusal, decode_of};
 ghost use Rattle.bytecode.specs.computed.CleanFields.{is_clean};
 ghost use Rattle.bytecode.specs.computed.Stored.{with_bytes};
 ghost use Rattle.agal_c.specs.Calls.{delivered};
-ghost use Rattle.agal_c.specs.computed.Delivery.{outright_fault, delivery_code, source_values};
+ghost use Rattle.agal_c.specs.computed.Delivery.{delivery_code, source_values};
 ghost use Rattle.agal_c.specs.Values.{destination_values, operand_values};
 ghost use Rattle.agal_c.specs.Flat.{destination_bytes, operand_bytes, flat_of, is_flat, values_at, token_of_flat};
 
 use crate::values;
 use crate::values::Values;
-use layout::fields::Fields;
-use layout::opcodes;
-use layout::opcodes::{OperandShape, Shape};
+use layout::fields::RawToken;
+use layout::opcodes::OperandShape;
 use layout::record::Token;
 
-// The fault that is told before any field but the opcode is looked into: 24 where the bytes are no whole token, 9 where the opcode is not listed, else 0.
-// It is small enough to be compiled into its callers, so that such bytes cost no further call.
-pub(crate) fn outright_fault(token: &[u8]) -> u8
-    ensures { result ≡ outright_fault token.now }
+// The fault that is told before any field but the opcode is looked into: 24 where the bytes are no whole token, 9 where the opcode is not
+// listed. It is small enough to be compiled into its callers, so that such bytes cost no further call.
+pub(crate) fn outright_fault(token: &[u8]) -> Option<u8>
+    ensures whole { IfNone result (length token.now ≡ 24) }
+    ensures told { IfSome result (λ fault. decode_of token.now ≡ Err (refusal fault 0 0)) }
 {
     if token.len() != 24 {
-        return 24;
+        return Some(24);
     }
-    let f = bytecode::fields_of(token);
-    let shape = opcodes::shape_of(f.opcode);
-    if shape.listed { 0 } else { 9 }
+    let raw = RawToken::of(bytecode::fields_of(token));
+    if raw.shape.listed { None } else { Some(9) }
 }
 
 // Writes the flat form of a token and returns 0, or returns the token's first fault, its number plus 256 times its part; 23 where the lent
-// buffer has no room for a flat form. A number comes back in a register, where a struct would be written to memory and read from it at once.
+// buffer has no room for a flat form. A number and not a Result: it comes back in a register, where a struct would be written to memory and
+// read from it at once (docs/DECISIONS.md, 48).
 pub(crate) fn deliver(token: &[u8], flat: &mut [u8]) -> u32
     requires { length token.now ≡ 24 }
     ensures value { result ≡ delivery_code (decode_of token.now) flat.old }
     ensures flat_after { flat.new ≡ delivered (decode_of token.now) flat.old }
 {
-    let f = bytecode::fields_of(token);
-    let shape = opcodes::shape_of(f.opcode);
-    if !bytecode::is_clean(shape, f) {
-        let fault = bytecode::fault_of(shape, f);
+    let raw = RawToken::of(bytecode::fields_of(token));
+    if !bytecode::is_clean(raw) {
+        let Err(fault) = bytecode::fault_of(raw) else {
+            unreachable!();
+        };
         return fault.number as u32 + 256 * fault.part as u32;
     }
     if flat.len() < 29 {
         return 23;
     }
-    put_token(shape, f, flat);
+    put_token(raw, flat);
     0
 }
 
 // Writes the flat form of the record that fields make to the first 29 bytes. No record is made: where no undefined bit is set, the bytes of
 // a destination's or a source's field are its values, in the order of the flat form.
-fn put_token(shape: Shape, f: Fields, out: &mut [u8])
+fn put_token(raw: RawToken, out: &mut [u8])
     requires in_bounds { 29 ≤ length out.old }
-    requires f_value { is_clean shape f ≡ true }
-    ensures { out.new ≡ flat_of (token_of shape f) ++ drop 29 out.old }
+    requires clean { is_clean raw.shape raw.fields ≡ true }
+    ensures { out.new ≡ flat_of (token_of raw.shape raw.fields) ++ drop 29 out.old }
 {
-    let shape1 = shape.source1;
-    let shape2 = shape.source2;
-    bytecode::put_word(out, 0, f.opcode as u64);
-    put_destination(out, shape.destination, f.destination);
-    put_operand(out, 9, shape1, f.source1);
-    put_operand(out, 19, shape2, f.source2);
+    let RawToken { shape, fields } = raw;
+    bytecode::put_word(out, 0, fields.opcode as u64);
+    put_destination(out, shape.destination, fields.destination);
+    put_operand(out, 9, shape.source1, fields.source1);
+    put_operand(out, 19, shape.source2, fields.source2);
 }
 
 fn put_destination(out: &mut [u8], used: bool, field: u64)
@@ -137,18 +137,11 @@ pub(crate) fn token_of(flat: &[u8]) -> Token
     requires { 29 ≤ length flat.now }
     ensures { result ≡ token_of_flat flat.now }
 {
-    let opcode = layout::word(flat[0], flat[1], flat[2], flat[3]);
-    let d = values_at(flat, 4);
-    let a = values_at(flat, 9);
-    let b = values_at(flat, 19);
-    let destination = values::destination_from(d);
-    let source1 = values::operand_from(a);
-    let source2 = values::operand_from(b);
     Token {
-        opcode,
-        destination,
-        source1,
-        source2,
+        opcode: layout::word(flat[0], flat[1], flat[2], flat[3]),
+        destination: values::destination_from(values_at(flat, 4)),
+        source1: values::operand_from(values_at(flat, 9)),
+        source2: values::operand_from(values_at(flat, 19)),
     }
 }
 
@@ -156,10 +149,9 @@ fn values_at(flat: &[u8], at: usize) -> Values
     requires { at + 10 ≤ length flat.now }
     ensures { result ≡ values_at flat.now at }
 {
-    let number = half(flat[at + 1], flat[at + 2]);
     Values {
         form: flat[at],
-        number,
+        number: u16::from_le_bytes([flat[at + 1], flat[at + 2]]),
         first: flat[at + 3],
         second: flat[at + 4],
         third: flat[at + 5],
@@ -168,10 +160,4 @@ fn values_at(flat: &[u8], at: usize) -> Values
         sixth: flat[at + 8],
         seventh: flat[at + 9],
     }
-}
-
-fn half(low: u8, high: u8) -> u16
-    ensures { result ≡ low + 256 * high }
-{
-    low as u16 + 256 * high as u16
 }

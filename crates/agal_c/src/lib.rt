@@ -22,10 +22,7 @@ use layout::record::Sampler;
 pub fn agal_check(edition: u32, program: &[u8]) -> Answer
     ensures { result ≡ check_answer (verdict edition program.now) }
 {
-    match verifier::check(edition, program) {
-        Ok(p) => answers::answered(p.stage, p.tokens),
-        Err(r) => answers::refused(r, 0),
-    }
+    Answer::from(verifier::check(edition, program))
 }
 
 // Decodes a token into its flat form, of 29 bytes. A fault of the token comes before 23.
@@ -33,11 +30,10 @@ pub fn agal_decode(token: &[u8], flat: &mut [u8]) -> Answer
     ensures value { result ≡ delivery_answer 0 29 (decode_of token.now) flat.old }
     ensures flat_after { flat.new ≡ delivered (decode_of token.now) flat.old }
 {
-    let fault = flat::outright_fault(token);
-    if fault != 0 {
-        return answers::refused_at(fault, 0, 0);
+    if let Some(fault) = flat::outright_fault(token) {
+        return Answer::refused_at(fault, 0, 0);
     }
-    answers::delivered(flat::deliver(token, flat), 0, 29)
+    Answer::delivered(flat::deliver(token, flat), 0, 29)
 }
 
 // The step of a reader that has read `place` tokens: the flat form of the next, and the place after it.
@@ -46,11 +42,10 @@ pub fn agal_read(program: &[u8], place: usize, flat: &mut [u8]) -> Answer
     ensures flat_after { flat.new ≡ delivered (read_of program.now place) flat.old }
 {
     let token = reader::token_bytes(program, place);
-    let fault = flat::outright_fault(token);
-    if fault != 0 {
-        return answers::refused_at(fault, 0, place);
+    if let Some(fault) = flat::outright_fault(token) {
+        return Answer::refused_at(fault, 0, place);
     }
-    answers::delivered(flat::deliver(token, flat), place, place + 1)
+    Answer::delivered(flat::deliver(token, flat), place, place + 1)
 }
 
 // Encodes a flat form into 24 bytes. What is no flat form is 25, as a record that is not encodable is.
@@ -59,9 +54,9 @@ pub fn agal_encode(flat: &[u8], out: &mut [u8]) -> Answer
     ensures out_after { out.new ≡ after_flat_encode flat.now out.old }
 {
     if !flat::is_flat(flat) {
-        return answers::refused_at(25, 0, 0);
+        return Answer::refused_at(25, 0, 0);
     }
-    answers::encoded(bytecode::encode(flat::token_of(flat), out))
+    Answer::from(bytecode::encode(flat::token_of(flat), out))
 }
 
 // The listing line of a flat form, and its length. Numbers that are no byte are no stage and no depth.
@@ -70,15 +65,12 @@ pub fn agal_line(flat: &[u8], stage: u32, depth: u32, out: &mut [u8]) -> Answer
     ensures out_after { out.new ≡ after_flat_line flat.now stage depth out.old }
 {
     if !flat::is_flat(flat) {
-        return answers::refused_at(25, 0, 0);
+        return Answer::refused_at(25, 0, 0);
     }
-    if 255 < stage {
-        return answers::refused_at(25, 0, 0);
-    }
-    if 255 < depth {
-        return answers::refused_at(25, 0, 0);
-    }
-    answers::printed(listing::line(flat::token_of(flat), stage as u8, depth as u8, out))
+    let (Ok(stage), Ok(depth)) = (u8::try_from(stage), u8::try_from(depth)) else {
+        return Answer::refused_at(25, 0, 0);
+    };
+    Answer::from(listing::line(flat::token_of(flat), stage, depth, out))
 }
 
 // The whole text that agallist prints for an edition digit and a program, and its length.
@@ -86,7 +78,7 @@ pub fn agal_report(input: &[u8], out: &mut [u8]) -> Answer
     ensures value { result ≡ printed_answer (print_answer (text_of input.now) out.old) }
     ensures out_after { out.new ≡ after_print (text_of input.now) out.old }
 {
-    answers::printed(report::report(input, out))
+    Answer::from(report::report(input, out))
 }
 
 // The bias of a sampler whose record has this signed byte, as a float. Nothing else of the sampler counts.

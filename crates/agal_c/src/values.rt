@@ -7,7 +7,8 @@ use layout::record::{DirectSource, IndexedSource, MaskedRegister, Operand, Sampl
 
 // `form` tells the cases of the record apart: 0 unused, 1 register or direct source, 2 indexed source, 3 sampler. The C header calls it the
 // kind, a word that is a register's type here. The values after the number stand in the order of the record; those that a case does not
-// have are 0.
+// have are 0. They are seven fields, as the definitions of the flat form have them (`values` in specs/Values.antt): an array would be read
+// by seven indices in their place, which is no plainer.
 #[derive(Clone, Copy)]
 pub(crate) struct Values {
     pub form: u8,
@@ -25,11 +26,10 @@ pub(crate) fn sampler_values(field: u64) -> Values
     ensures { result ≡ sampler_values (sampler_of field) }
 {
     let s = layout::unpack_sampler(field);
-    let first = bytecode::unsigned_byte(s.bias);
     Values {
         form: 3,
         number: s.number,
-        first,
+        first: bytecode::unsigned_byte(s.bias),
         second: s.kind,
         third: s.dimension,
         fourth: s.special,
@@ -43,52 +43,47 @@ pub(crate) fn sampler_values(field: u64) -> Values
 pub(crate) fn destination_from(v: Values) -> Option<MaskedRegister>
     ensures { result ≡ destination_from v }
 {
-    if v.form == 0 {
-        return None;
+    match v.form {
+        0 => None,
+        _ => Some(MaskedRegister {
+            number: v.number,
+            mask: v.first,
+            kind: v.second,
+        }),
     }
-    Some(MaskedRegister {
-        number: v.number,
-        mask: v.first,
-        kind: v.second,
-    })
 }
 
 pub(crate) fn operand_from(v: Values) -> Operand
     ensures { result ≡ operand_from v }
 {
-    if v.form == 0 {
-        return Operand::Unused;
-    }
-    if v.form == 1 {
-        return Operand::Direct(DirectSource {
+    match v.form {
+        0 => Operand::Unused,
+        1 => Operand::Direct(DirectSource {
             number: v.number,
             offset: v.first,
             swizzle: v.second,
             kind: v.third,
             index_kind: v.fourth,
             component: v.fifth,
-        });
-    }
-    if v.form == 2 {
-        return Operand::Indexed(IndexedSource {
+        }),
+        2 => Operand::Indexed(IndexedSource {
             number: v.number,
             offset: v.first,
             swizzle: v.second,
             kind: v.third,
             index_kind: v.fourth,
             component: v.fifth,
-        });
+        }),
+        _ => Operand::Sampler(sampler_from(v)),
     }
-    Operand::Sampler(sampler_from(v))
 }
 
 fn sampler_from(v: Values) -> Sampler
     ensures { result ≡ sampler_from v }
 {
-    let bias = layout::signed_byte(v.first);
     Sampler {
         number: v.number,
-        bias,
+        bias: layout::signed_byte(v.first),
         kind: v.second,
         dimension: v.third,
         special: v.fourth,

@@ -7,7 +7,7 @@ use mathlib.Core.Path.{◌≡◌, refl, sym, ap, ◌∙◌}
 use native.Mathlib.Omega.{arith}
 use lib.Dec.{eqb}
 use borrow.Author.Tests.{eqb-true, eq-eqb}
-use Rattle.laws.proofs.Every.{left}
+use Rattle.std.proofs.lemmas.Bool.{and_parts}
 use Rattle.layout.specs.Opcodes.{row_count2}
 use Rattle.layout.specs.declared.record.DirectSource.{DirectSource}
 use Rattle.layout.specs.declared.record.Operand.{Operand}
@@ -84,7 +84,7 @@ none_missing s rows components d e = go (eqb d.kind 2) e
 -- what lacks some of them is a temporary register
 pub lacking : (s : Written) (rows : ℕ) (d : DirectSource) → lacks_some s rows d ≡ true → d.kind ≡ 2
 unfolding lacks_some
-lacking s rows d e = eqb-true d.kind 2 (left (eqb d.kind 2) (lacks_of s d.number rows 15) e)
+lacking s rows d e = eqb-true d.kind 2 (and_parts (eqb d.kind 2) (lacks_of s d.number rows 15) e).0
 
 -- so the code's test of an access is the check's test of what a token reads
 pub lacks_reads1 : (s : Written) (t : Token) → lacks (component_set s) (temporaries (reads1 t)) ≡ lacks_access s (access1_of t)

@@ -6,7 +6,7 @@ use mathlib.Core.Path.{◌≡◌, refl, sym, ap, ◌∙◌}
 use native.Mathlib.Omega.{arith}
 use lib.Bits.{bit_and, and_mod, and_comm, and_mask, and_le_l}
 use lib.Dec.{eqb}
-use borrow.Author.Tests.{eqb-true, eqb-false, eq-eqb, ne_eqb}
+use borrow.Author.Tests.{eqb-true, eqb-false, eq-eqb, ne_eqb, not-false}
 use Rattle.laws.specs.computed.Tests.{every}
 use Rattle.laws.proofs.Every.{below, is_true, same→eq}
 use Rattle.layout.specs.Swizzles.{bit_of}
@@ -61,13 +61,9 @@ misses_is m h =
 -- a number with all four bits misses none of any other
 pub misses_none : (m h : ℕ) → not (eqb (bit_and 15 h) 15) ≡ false → not (eqb (bit_and (m % 16) h) (m % 16)) ≡ false
 misses_none m h e =
-    let all : h % 16 ≡ 15 = sym (and_mask h 4) ∙ and_comm h 15 ∙ eqb-true (bit_and 15 h) 15 (is_not_false _ e) in
+    let all : h % 16 ≡ 15 = sym (and_mask h 4) ∙ and_comm h 15 ∙ eqb-true (bit_and 15 h) 15 (not-false _ e) in
     let once : m % 16 % 16 ≡ m % 16 = omega arith in
     ap not (eq-eqb (bit_and (m % 16) h) (m % 16) (low_and m h ∙ ap (bit_and (m % 16)) all ∙ and_mask (m % 16) 4 ∙ once))
-  where
-    is_not_false : (b : Bool) → not b ≡ false → b ≡ true
-    is_not_false true e = refl
-    is_not_false false e = sym e
 
 -- four bits at the place of one of 16 registers
 abbrev placed : ℕ → ℕ → ℕ → Bool

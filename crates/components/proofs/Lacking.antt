@@ -1,12 +1,12 @@
 -- What `lacks` answers, as the code finds it: register by register.
 -- Assumes nothing.
-use Prim.Native.Nat.{ℕ, zero, suc, ◌+◌, ◌-◌, ◌*◌, ◌/◌, ◌%◌, ◌^◌, ◌<◌, ◌≤◌}
+use Prim.Native.Nat.{ℕ, zero, suc, ◌*◌, ◌/◌, ◌%◌, ◌^◌}
 use mathlib.Core.Bool.{false, ◌||◌}
 use mathlib.Core.Path.{◌≡◌, refl, sym, ap, ◌∙◌}
 use native.Mathlib.Numerals.{add-one}
 use native.Mathlib.Omega.{arith}
 use Rattle.std.specs.List.{list_any, range_with_len}
-use Rattle.laws.proofs.Every.{neither}
+use Rattle.std.proofs.lemmas.Bool.{or_parts}
 use Rattle.paths.specs.computed.Check.{lacks}
 use Rattle.layout.specs.Swizzles.{mask_components}
 use Rattle.components.specs.computed.Written.{half_of, component_set, lacks_row, lacks_of}
@@ -44,6 +44,6 @@ unfolding lacks_of
 lacks_nothing s r zero m h = refl
 lacks_nothing s r (suc n) m h =
     let both = sym (lacks_more s r n 15) ∙ h in
-    let row = misses_none m (half_of s r / 2 ^ (r % 16 * 4)) (neither (lacks_row s r 15) (lacks_of s (suc r) n 15) both).0 in
-    let rest = lacks_nothing s (suc r) n m (neither (lacks_row s r 15) (lacks_of s (suc r) n 15) both).1 in
+    let row = misses_none m (half_of s r / 2 ^ (r % 16 * 4)) (or_parts (lacks_row s r 15) (lacks_of s (suc r) n 15) both).0 in
+    let rest = lacks_nothing s (suc r) n m (or_parts (lacks_row s r 15) (lacks_of s (suc r) n 15) both).1 in
     lacks_more s r n m ∙ rw (row, rest)

@@ -4,7 +4,7 @@ use Prim.Native.Nat.{ℕ}
 use mathlib.Core.Bool.{Bool, true, false, cond, true≢false}
 use mathlib.Core.Path.{◌≡◌, refl, sym, ap, ap₂, subst, fun_ext, ◌∙◌}
 use lib.Dec.{eqb, eqb→eq}
-use Rattle.laws.proofs.Every.{neither}
+use Rattle.std.proofs.lemmas.Bool.{or_parts}
 use Rattle.layout.specs.Opcodes.{tex, openers, is_matrix, is_opener, row_count2, holds, row_of, shape_of_row, shape_of}
 use Rattle.layout.specs.Records.{register_of, direct_of, is_indexed, indexed_of, sampler_of, source_of, operand_of, token_of}
 use Rattle.layout.specs.computed.Sets.{named_set, selector_set1, selector_set2, read_set2}
@@ -26,7 +26,7 @@ use Rattle.components.proofs.AccessFields.{source_dimension}
 use Rattle.components.proofs.AccessLaws.{none_missing, lacks_reads1, lacks_reads2}
 
 -- what the code answers, with what it means
-pub with_meaning : (Means : Bool → Type 0) (r b : Bool) → r ≡ b → Means b → (r ≡ b) × Means r
+with_meaning : (Means : Bool → Type 0) (r b : Bool) → r ≡ b → Means b → (r ≡ b) × Means r
 with_meaning Means r b e m = (e, subst Means (sym e) m)
 
 -- ---- one source
@@ -116,7 +116,7 @@ module _ (s : Written) (f : Fields) where
       let p = is_ordinary_lem o is in
       let (whole, not-sampler) = ordinary_shape o p in
       let shape2 = (shape_of o).source2 in
-      let (l, r) = neither (lacks_access s (selected_access (selector_set1 o mask 0) (direct_of f.source1))) (lacks_access s (selected_access (selector_set2 o mask) (direct_of f.source2))) e in
+      let (l, r) = or_parts (lacks_access s (selected_access (selector_set1 o mask 0) (direct_of f.source1))) (lacks_access s (selected_access (selector_set2 o mask) (direct_of f.source2))) e in
       reads_by (holds true Source shape2) whole
       (direct_first shape2 0 (no_dimension shape2 not-sampler f.source2) direct.0 l)
       (second_selected p.matrix mask shape2 (through_direct s 1 (λ z. named_set z (selector_set2 o mask)) shape2 f.source2 direct.1 r))
@@ -124,7 +124,7 @@ module _ (s : Written) (f : Fields) where
   pub matrix_reads : MatrixReads (matrix_may_read_unwritten s f) s f
   unfolding matrix_may_read_unwritten token_of
   matrix_reads e is direct =
-      let (l, r) = neither (lacks_access s (selected_access (selector_set1 o mask 0) (direct_of f.source1))) (lacks_some s (row_count2 o) (direct_of f.source2)) e in
+      let (l, r) = or_parts (lacks_access s (selected_access (selector_set1 o mask 0) (direct_of f.source1))) (lacks_some s (row_count2 o) (direct_of f.source2)) e in
       reads_by (holds true Source Source) (matrix_shape o is)
       (direct_first Source 0 (source_dimension f.source2) direct.0 l)
       (through_direct s (row_count2 o) (read_set2 o mask) Source f.source2 direct.1 (sym (none_missing s (row_count2 o) (read_set2 o mask) (direct_of f.source2) r)))
@@ -145,7 +145,7 @@ module _ (s : Written) (f : Fields) where
   indexed_reads e is =
       let (whole, not-sampler) = first_shape o is in
       let shape2 = (shape_of o).source2 in
-      let (l, r) = neither (may_lack s 1 f.source1) (may_lack s (row_count2 o) f.source2) e in
+      let (l, r) = or_parts (may_lack s 1 f.source1) (may_lack s (row_count2 o) f.source2) e in
       reads_by (holds true Source shape2) whole
       (reads_first shape2 0 (no_dimension shape2 not-sampler f.source2) (none_at_all s 1 (λ z. named_set z (selector_set1 o mask 0)) f.source1 l))
       (through_either s (row_count2 o) (read_set2 o mask) shape2 f.source2 r)
@@ -162,7 +162,7 @@ module _ (s : Written) (f : Fields) where
   pub opener_reads : OpenerReads (opener_may_read_unwritten s f) s f
   unfolding opener_may_read_unwritten token_of
   opener_reads e is =
-      let (l, r) = neither (opener_lacks s f.source1) (opener_lacks s f.source2) e in
+      let (l, r) = or_parts (opener_lacks s f.source1) (opener_lacks s f.source2) e in
       let by : ℕ → ℕ → Bool = λ field selectors. lacks_access s (access_through 1 (λ z. named_set z selectors) (source_of field)) in
       reads_by (branch_shape true) (opener_shape o is)
       (ap (by f.source1) (all_four1 is (dimension_of (source_of f.source2))) ∙ none_by_four s f.source1 l)
@@ -175,3 +175,34 @@ module _ (s : Written) (f : Fields) where
       reads_by (holds false Source Unused) (ap shape_of is)
       (through_direct s 1 (λ z. named_set z (selector_set1 o 0 0)) Source f.source1 direct (ap (λ o. lacks_access s (selected_access (selector_set1 o 0 0) (direct_of f.source1))) is ∙ e))
       refl
+
+-- ---- what each test answers, with what that means
+
+pub ordinary_means : (s : Written) (f : Fields) (r : Bool) → r ≡ may_read_unwritten s f → (r ≡ may_read_unwritten s f) × OrdinaryReads r s f
+ordinary_means s f r e = with_meaning (λ r. OrdinaryReads r s f) r (may_read_unwritten s f) e (ordinary_reads s f)
+
+pub matrix_means : (s : Written) (f : Fields) (r : Bool) → r ≡ matrix_may_read_unwritten s f → (r ≡ matrix_may_read_unwritten s f) × MatrixReads r s f
+matrix_means s f r e = with_meaning (λ r. MatrixReads r s f) r (matrix_may_read_unwritten s f) e (matrix_reads s f)
+
+pub tex_means : (s : Written) (f : Fields) (r : Bool) → r ≡ tex_may_read_unwritten s f → (r ≡ tex_may_read_unwritten s f) × TexReads r s f
+tex_means s f r e = with_meaning (λ r. TexReads r s f) r (tex_may_read_unwritten s f) e (tex_reads s f)
+
+pub indexed_means : (s : Written) (f : Fields) (r : Bool) → r ≡ indexed_may_read_unwritten s f → (r ≡ indexed_may_read_unwritten s f) × IndexedReads r s f
+indexed_means s f r e = with_meaning (λ r. IndexedReads r s f) r (indexed_may_read_unwritten s f) e (indexed_reads s f)
+
+pub opener_means : (s : Written) (f : Fields) (r : Bool) → r ≡ opener_may_read_unwritten s f → (r ≡ opener_may_read_unwritten s f) × OpenerReads r s f
+opener_means s f r e = with_meaning (λ r. OpenerReads r s f) r (opener_may_read_unwritten s f) e (opener_reads s f)
+
+pub kil_means : (s : Written) (f : Fields) (r : Bool) → r ≡ kil_may_read_unwritten s f → (r ≡ kil_may_read_unwritten s f) × KilReads r s f
+kil_means s f r e = with_meaning (λ r. KilReads r s f) r (kil_may_read_unwritten s f) e (kil_reads s f)
+
+-- where all four components of both sources' registers are written, the first test says no
+pub ordinary_none : (s : Written) (f : Fields) → lacks_some s 1 (direct_of f.source1) ≡ false → lacks_some s 1 (direct_of f.source2) ≡ false → false ≡ may_read_unwritten s f
+unfolding may_read_unwritten
+ordinary_none s f a b =
+    let mask = (register_of f.destination).mask in
+    simp (
+      sym (none_missing s 1 (λ z. named_set z (selector_set1 f.opcode mask 0)) (direct_of f.source1) a),
+      sym (none_missing s 1 (λ z. named_set z (selector_set2 f.opcode mask)) (direct_of f.source2) b),
+    )
+    refl

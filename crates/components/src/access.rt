@@ -32,7 +32,7 @@ pub fn reads_unwritten(current: Written, raw: RawToken, source: Source) -> bool
 }
 
 // What the opcode reads is asked only where the register is a temporary one, and lacks something.
-#[tactic(auto, unfolding(layout::specs::Records::token_of))]
+#[tactic(auto, using(crate::proofs::AccessLaws::temporary, crate::proofs::AccessLaws::lacking), unfolding(layout::specs::Records::token_of))]
 #[inline(always)]
 fn direct_unwritten(current: Written, raw: RawToken, source: Source) -> bool
     ensures { result ≡ lacks_access current (direct_access_of source raw.shape raw.fields) }

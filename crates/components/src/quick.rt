@@ -13,6 +13,7 @@ use layout::selection;
 
 // For a token with a destination and direct sources of one register each. A source that is not used is 0, which names no temporary register,
 // and is asked as the other is.
+#[tactic(auto, using(crate::proofs::QuickLaws::ordinary_means), unfolding(crate::specs::computed::QuickTests::may_read_unwritten))]
 pub fn may_read_unwritten(current: Written, f: Fields) -> bool
     ensures { (result ≡ may_read_unwritten current f) × OrdinaryReads result current f }
 {
@@ -27,6 +28,7 @@ pub fn may_read_unwritten(current: Written, f: Fields) -> bool
 }
 
 // The same of a matrix, whose rows of source 2 are asked for all four components.
+#[tactic(auto, using(crate::proofs::QuickLaws::matrix_means), unfolding(crate::specs::computed::QuickTests::matrix_may_read_unwritten))]
 pub fn matrix_may_read_unwritten(current: Written, f: Fields) -> bool
     ensures { (result ≡ matrix_may_read_unwritten current f) × MatrixReads result current f }
 {
@@ -37,6 +39,7 @@ pub fn matrix_may_read_unwritten(current: Written, f: Fields) -> bool
 }
 
 // The same of tex, which reads through source 1 alone.
+#[tactic(auto, using(crate::proofs::QuickLaws::tex_means), unfolding(crate::specs::computed::QuickTests::tex_may_read_unwritten))]
 pub fn tex_may_read_unwritten(current: Written, f: Fields) -> bool
     ensures { (result ≡ tex_may_read_unwritten current f) × TexReads result current f }
 {
@@ -45,6 +48,7 @@ pub fn tex_may_read_unwritten(current: Written, f: Fields) -> bool
 }
 
 // The same where a source may be indexed, of a matrix too. All components of a direct source's rows are asked for.
+#[tactic(auto, using(crate::proofs::QuickLaws::indexed_means), unfolding(crate::specs::computed::QuickTests::indexed_may_read_unwritten))]
 pub fn indexed_may_read_unwritten(current: Written, f: Fields) -> bool
     ensures { (result ≡ indexed_may_read_unwritten current f) × IndexedReads result current f }
 {
@@ -71,6 +75,7 @@ fn by_index_or<F: FnOnce() -> bool>(current: Written, field: u64, direct: F) -> 
 }
 
 // The same of an opener, each of whose sources may be indexed; a direct one is read by all four selectors.
+#[tactic(auto, using(crate::proofs::QuickLaws::opener_means), unfolding(crate::specs::computed::QuickTests::opener_may_read_unwritten))]
 pub fn opener_may_read_unwritten(current: Written, f: Fields) -> bool
     ensures { (result ≡ opener_may_read_unwritten current f) × OpenerReads result current f }
 {
@@ -87,6 +92,7 @@ fn opener_lacks(current: Written, field: u64) -> bool
 }
 
 // The same of kil, which reads by the first selector of source 1.
+#[tactic(auto, using(crate::proofs::QuickLaws::kil_means), unfolding(crate::specs::computed::QuickTests::kil_may_read_unwritten))]
 pub fn kil_may_read_unwritten(current: Written, f: Fields) -> bool
     ensures { (result ≡ kil_may_read_unwritten current f) × KilReads result current f }
 {

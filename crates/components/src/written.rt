@@ -35,6 +35,7 @@ impl Written {
     }
 
     // The set with the components of a register's mask added. A register above 31 is not kept: no edition has one.
+    #[tactic(auto, using(crate::proofs::WrittenLaws::marks))]
     pub fn mark(self, register: u16, mask: u8) -> Written
         ensures { result ≡ mark_of self register mask }
     {

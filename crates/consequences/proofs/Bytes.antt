@@ -49,7 +49,6 @@ same_flat t other rest behind (w, a, b) (v, c, d) e =
     sym (read_back.token t rest w a b) ∙ ap token_of_flat e ∙ read_back.token other behind v c d
 
 pub flat_encodes : FlatEncodes
-unfolding encode_answer after_flat_encode
 flat_encodes t rest buffer (w, a, b) = (
   rw (read_back.flat t rest, read_back.token t rest w a b) refl,
   rw (read_back.flat t rest, read_back.token t rest w a b) refl,

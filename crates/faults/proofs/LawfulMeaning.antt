@@ -17,10 +17,11 @@ use Rattle.components.specs.declared.written.Written.{Written}
 use Rattle.registers.specs.Counts.{count_of}
 use Rattle.faults.specs.computed.Faults.{refusal_at}
 use Rattle.faults.specs.Lawful.{Lawful}
-use Rattle.faults.specs.computed.LawfulTests.{is_lawful, is_lawful_matrix, is_lawful_tex, is_lawful_kil, is_lawful_indexed, is_lawful_branch, LawfulWith}
+use Rattle.faults.specs.computed.LawfulTests.{is_lawful, is_lawful_matrix, is_lawful_tex, is_lawful_kil, is_lawful_indexed, is_lawful_branch, is_lawful_either, is_rightly_indexed, usable_of, usable_beside, LawfulWith, LawfulUnder}
 use Rattle.bytecode.specs.Fields.{record_of}
 use Rattle.faults.specs.computed.Profile.{profile_of}
 use Rattle.faults.specs.declared.lawful.Usable.{Usable}
+use Rattle.faults.specs.declared.profile.Profile.{Profile}
 use Rattle.faults.proofs.LawfulToken.{NoOwnFault, ToldLawful, lawful, lawful_matrix, lawful_tex}
 use Rattle.faults.proofs.LawfulIndexed.{lawful_indexed}
 use Rattle.faults.proofs.LawfulKil.{lawful_kil}
@@ -43,26 +44,46 @@ none_broken edition stage f p s h e =
     no_rule _ (λ f k. (token_numbered (λ k. count_of k edition stage) edition stage s f k).0)
     ((taken_fault edition stage 0 s h (record_of s) (sym taken.answer)).1 ∙ right-here 0)
 
--- so what a test tells of the fields in an edition and a stage, it tells wherever they are usable
-told : (test : Usable → Bool) (f : Fields) → ((edition stage : ℕ) → test (usable_in edition stage) ≡ true → Lawful edition stage f)
+-- so what a test tells of the fields in an edition and a stage, it tells under the profile of these
+told : (test : Usable → Bool) (f : Fields) {branch used : Bool} {Enough : Written → Type 0}
+    → ((edition stage : ℕ) → test (usable_in edition stage) ≡ true → ToldLawful edition stage branch used Enough f)
+    → (usable : Usable) → test usable ≡ true → LawfulUnder usable f
+unfolding LawfulUnder
+told test f law usable e edition stage of = none_broken edition stage f (law edition stage (ap test (sym of) ∙ e))
+
+-- and, where it asks of no profile, wherever the same may be used
+told_beside : (test : Usable → Bool) (f : Fields) {branch used : Bool} {Enough : Written → Type 0}
+    → ((u : Usable) (p : Profile) → test (usable_beside u p) ≡ test u)
+    → ((edition stage : ℕ) → test (usable_in edition stage) ≡ true → ToldLawful edition stage branch used Enough f)
     → (usable : Usable) → test usable ≡ true → LawfulWith usable f
 unfolding LawfulWith
-told test f law usable e edition stage of = law edition stage (ap test (sym of) ∙ e)
+told_beside test f alike law usable e edition stage of =
+    none_broken edition stage f (law edition stage (ap test (sym of) ∙ alike usable (profile_of edition stage) ∙ e))
 
-pub means_lawful : (u : Usable) (f : Fields) → is_lawful u f ≡ true → LawfulWith u f
-means_lawful u f = told (λ u. is_lawful u f) f (λ edition stage e. none_broken edition stage f (lawful edition stage f e)) u
+-- where it holds beside every profile, it holds under its own
+pub under_its_own : (u : Usable) (f : Fields) → LawfulWith u f → LawfulUnder u f
+unfolding LawfulWith LawfulUnder usable_of
+under_its_own u f lawful edition stage of =
+    lawful edition stage (ap (λ v. usable_beside v (profile_of edition stage)) of)
 
-pub matrix_means_lawful : (u : Usable) (f : Fields) → is_lawful_matrix u f ≡ true → LawfulWith u f
-matrix_means_lawful u f = told (λ u. is_lawful_matrix u f) f (λ edition stage e. none_broken edition stage f (lawful_matrix edition stage f e)) u
+module _ (u : Usable) (f : Fields) where
+  pub means_lawful : is_lawful u f ≡ true → LawfulWith u f
+  unfolding is_lawful
+  means_lawful = told_beside (λ u. is_lawful u f) f (λ u p. refl) (λ edition stage. lawful edition stage f) u
 
-pub tex_means_lawful : (u : Usable) (f : Fields) → is_lawful_tex u f ≡ true → LawfulWith u f
-tex_means_lawful u f = told (λ u. is_lawful_tex u f) f (λ edition stage e. none_broken edition stage f (lawful_tex edition stage f e)) u
+  pub matrix_means_lawful : is_lawful_matrix u f ≡ true → LawfulWith u f
+  unfolding is_lawful_matrix
+  matrix_means_lawful = told_beside (λ u. is_lawful_matrix u f) f (λ u p. refl) (λ edition stage. lawful_matrix edition stage f) u
 
-pub kil_means_lawful : (u : Usable) (f : Fields) → is_lawful_kil u f ≡ true → LawfulWith u f
-kil_means_lawful u f = told (λ u. is_lawful_kil u f) f (λ edition stage e. none_broken edition stage f (lawful_kil edition stage f e)) u
+  pub tex_means_lawful : is_lawful_tex u f ≡ true → LawfulUnder u f
+  tex_means_lawful = told (λ u. is_lawful_tex u f) f (λ edition stage. lawful_tex edition stage f) u
 
-pub indexed_means_lawful : (u : Usable) (f : Fields) → is_lawful_indexed u f ≡ true → LawfulWith u f
-indexed_means_lawful u f = told (λ u. is_lawful_indexed u f) f (λ edition stage e. none_broken edition stage f (lawful_indexed edition stage f e)) u
+  pub kil_means_lawful : is_lawful_kil u f ≡ true → LawfulUnder u f
+  kil_means_lawful = told (λ u. is_lawful_kil u f) f (λ edition stage. lawful_kil edition stage f) u
 
-pub branch_means_lawful : (u : Usable) (f : Fields) → is_lawful_branch u f ≡ true → LawfulWith u f
-branch_means_lawful u f = told (λ u. is_lawful_branch u f) f (λ edition stage e. none_broken edition stage f (lawful_branch edition stage f e)) u
+  pub indexed_means_lawful : is_lawful_indexed u f ≡ true → LawfulWith u f
+  unfolding is_lawful_indexed is_lawful_either is_rightly_indexed
+  indexed_means_lawful = told_beside (λ u. is_lawful_indexed u f) f (λ u p. refl) (λ edition stage. lawful_indexed edition stage f) u
+
+  pub branch_means_lawful : is_lawful_branch u f ≡ true → LawfulUnder u f
+  branch_means_lawful = told (λ u. is_lawful_branch u f) f (λ edition stage. lawful_branch edition stage f) u

@@ -1,7 +1,7 @@
 // Lawful tokens: a few tests of their fields tell that they have none of faults 9 to 19. Each test says yes of lawful tokens alone, and of most
-// of them; the others are judged rule by rule.
+// of them; the others are judged rule by rule. What a test asks is joined by `&`, with no branch in between: a token's fields can't be guessed.
 ghost use Rattle.std.specs.Prelude.{true, ◌≡◌};
-ghost use Rattle.faults.specs.computed.LawfulTests.{usable_of, is_source, lawful_source_bits, is_lawful_destination, is_lawful_source, is_rightly_indexed, is_lawful_either, is_lawful, is_lawful_matrix, is_lawful_tex, is_lawful_kil, is_lawful_indexed, is_lawful_branch, LawfulWith};
+ghost use Rattle.faults.specs.computed.LawfulTests.{usable_of, is_source, lawful_source_bits, is_lawful_destination, is_lawful_source, is_rightly_indexed, is_lawful_either, is_lawful, is_lawful_matrix, is_lawful_tex, is_lawful_kil, is_lawful_indexed, is_lawful_branch, LawfulWith, LawfulUnder};
 
 use crate::profile::{Profile, count_at};
 use crate::rules;
@@ -91,7 +91,7 @@ impl Usable {
     #[tactic(auto, using(crate::proofs::LawfulMeaning::tex_means_lawful), unfolding(crate::specs::computed::LawfulTests::is_lawful_tex))]
     pub fn is_lawful_tex(self, f: Fields) -> bool
         ensures answer { result ≡ is_lawful_tex self f }
-        ensures lawful { result ≡ true → LawfulWith self f }
+        ensures lawful { result ≡ true → LawfulUnder self f }
     {
         if f.opcode != opcodes::TEX {
             return false;
@@ -109,7 +109,7 @@ impl Usable {
     #[tactic(auto, using(crate::proofs::LawfulMeaning::kil_means_lawful), unfolding(crate::specs::computed::LawfulTests::is_lawful_kil))]
     pub fn is_lawful_kil(self, f: Fields) -> bool
         ensures answer { result ≡ is_lawful_kil self f }
-        ensures lawful { result ≡ true → LawfulWith self f }
+        ensures lawful { result ≡ true → LawfulUnder self f }
     {
         if f.opcode != opcodes::KIL {
             return false;
@@ -144,7 +144,7 @@ impl Usable {
     #[tactic(auto, using(crate::proofs::LawfulMeaning::branch_means_lawful), unfolding(crate::specs::computed::LawfulTests::is_lawful_branch))]
     pub fn is_lawful_branch(self, f: Fields) -> bool
         ensures answer { result ≡ is_lawful_branch self f }
-        ensures lawful { result ≡ true → LawfulWith self f }
+        ensures lawful { result ≡ true → LawfulUnder self f }
     {
         if !opcodes::is_branch(f.opcode) {
             return false;
@@ -168,7 +168,7 @@ impl Usable {
             & !rules::is_wrong_mask(f.opcode, r.mask)
     }
 
-    // A source that is not used is 0.
+    // A source that is not used is 0. `used` stands beside the rows, since an Option of them would be taken apart by a branch.
     #[tactic(auto, unfolding(crate::specs::computed::LawfulTests::is_lawful_source))]
     fn is_lawful_source(self, used: bool, rows: u8, field: u64) -> bool
         ensures { result ≡ is_lawful_source self.readable used rows field }

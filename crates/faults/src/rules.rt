@@ -15,26 +15,23 @@ impl Profile {
     pub(crate) fn opcode_too_new(self, opcode: u32) -> bool
         ensures { result ≡ opcode_too_new self.edition opcode }
     {
-        (self.edition == 1) & opcodes::is_added(opcode)
+        self.edition == 1 && opcodes::is_added(opcode)
     }
 
     // 11
     pub(crate) fn opcode_not_for_stage(self, opcode: u32) -> bool
         ensures { result ≡ opcode_not_for_stage self.stage opcode }
     {
-        (self.stage == 0) & opcodes::is_fragment_only(opcode)
+        self.stage == 0 && opcodes::is_fragment_only(opcode)
     }
 
     // 14
     pub(crate) fn destination_wrong(self, destination: Option<MaskedRegister>) -> bool
         ensures { result ≡ destination_wrong (count_in self) self.stage destination }
     {
-        match destination {
-            None => false,
-            Some(r) => {
-                !registers::is_writable(r.kind, self.stage) | (self.count_of(r.kind) <= r.number)
-            }
-        }
+        destination.is_some_and(|r| {
+            !registers::is_writable(r.kind, self.stage) || self.count_of(r.kind) <= r.number
+        })
     }
 
     // 16
@@ -42,11 +39,11 @@ impl Profile {
         ensures { result ≡ indexed_wrong (count_in self) self.stage rows s }
     {
         let end = s.offset as u16 + rows as u16;
-        (self.stage != 0)
-            | (s.kind != 1)
-            | (2 < s.index_kind)
-            | (self.count_of(s.index_kind) <= s.number)
-            | (self.count_of(1) < end)
+        self.stage != 0
+            || s.kind != 1
+            || 2 < s.index_kind
+            || self.count_of(s.index_kind) <= s.number
+            || self.count_of(1) < end
     }
 
     // 17
@@ -55,15 +52,15 @@ impl Profile {
     {
         let end = s.number as u32 + rows as u32;
         !registers::is_readable(s.kind, self.stage)
-            | ((self.count_of(s.kind) as u32) < end)
-            | (s.offset != 0)
+            || (self.count_of(s.kind) as u32) < end
+            || s.offset != 0
     }
 
     // 19
     pub(crate) fn sampler_wrong(self, s: Sampler) -> bool
         ensures { result ≡ sampler_wrong (count_in self) s }
     {
-        (self.count_of(5) <= s.number) | layout::settings_wrong(s)
+        self.count_of(5) <= s.number || layout::settings_wrong(s)
     }
 }
 
@@ -71,10 +68,7 @@ impl Profile {
 pub(crate) fn mask_wrong(opcode: u32, destination: Option<MaskedRegister>) -> bool
     ensures { result ≡ mask_wrong opcode destination }
 {
-    match destination {
-        None => false,
-        Some(r) => is_wrong_mask(opcode, r.mask),
-    }
+    destination.is_some_and(|r| is_wrong_mask(opcode, r.mask))
 }
 
 // 15 of a mask that stands.
@@ -88,15 +82,12 @@ pub(crate) fn is_wrong_mask(opcode: u32, mask: u8) -> bool
 pub(crate) fn selectors_differ(opcode: u32, swizzle: u8) -> bool
     ensures { result ≡ selectors_differ opcode swizzle }
 {
-    if opcode != opcodes::KIL {
-        return false;
-    }
-    !layout::selectors_agree(swizzle)
+    opcode == opcodes::KIL && !layout::selectors_agree(swizzle)
 }
 
 // 18, of source 2
 pub(crate) fn matrix_swizzled(opcode: u32, swizzle: u8) -> bool
     ensures { result ≡ matrix_swizzled opcode swizzle }
 {
-    opcodes::is_matrix(opcode) & (swizzle != layout::XYZW)
+    opcodes::is_matrix(opcode) && swizzle != layout::XYZW
 }

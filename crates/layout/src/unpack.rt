@@ -12,11 +12,7 @@ use crate::record::{DirectSource, IndexedSource, MaskedRegister, Operand, Sample
 pub fn unpack_destination(used: bool, field: u64) -> Option<MaskedRegister>
     ensures { result ≡ destination_of used field }
 {
-    if used {
-        Some(unpack_register(field))
-    } else {
-        None
-    }
+    used.then(|| unpack_register(field))
 }
 
 pub fn unpack_operand(shape: OperandShape, field: u64) -> Operand

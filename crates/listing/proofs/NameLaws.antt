@@ -1,18 +1,19 @@
 -- The code's tables of names are the specification's, by tests that antt computes over all their rows.
 -- Assumes nothing.
-use Prim.Native.Nat.{ℕ, zero, suc, ◌+◌, ◌-◌, ◌*◌, ◌<◌, ◌≤◌}
-use mathlib.Core.Bool.{Bool, true, false, not, ◌&&◌, ◌||◌}
+use Prim.Native.Nat.{ℕ, min, zero, suc, ◌+◌, ◌-◌, ◌*◌, ◌≤◌}
+use mathlib.Core.Bool.{Bool, true, false, cond, ◌&&◌, ◌||◌}
 use mathlib.Core.List.{List, [], ◌∷◌, ◌++◌}
 use mathlib.Core.Path.{◌≡◌, refl, subst, sym}
+use native.Mathlib.Decide.{dec_lt}
 use native.Mathlib.Omega.{arith}
-use lib.Dec.{T, eqb, ltb, eqb→eq, ltb→lt}
-use lib.ListN.{length, take, drop, get_or}
+use Rattle.std.proofs.lemmas.Bool.{ne_eqb}
+use lib.Dec.{T, eqb, eqb→eq}
+use lib.ListN.{length, take, drop, get_or-eq_default}
 use Rattle.layout.specs.Opcodes.{is_in, is_listed, first_opcodes, added_opcodes}
-use Rattle.laws.specs.computed.Tests.{every}
-use Rattle.laws.proofs.Every.{both_left, both_right, below}
-use Rattle.listing.specs.Text.{ascii, when}
-use Rattle.listing.specs.Names.{opcode_name, register_name}
-use Rattle.listing.specs.computed.Writers.{name_row}
+use Rattle.laws.proofs.Every.{both_left, both_right}
+use Rattle.listing.specs.Text.{ascii}
+use Rattle.listing.specs.Names.{opcode_name, register_names, register_name}
+use Rattle.listing.specs.First.{stage_name}
 use Rattle.listing.proofs.Bytes.{equal, equal→eq}
 
 pub short : (n : ℕ) (l : List ℕ) → length (take n l) ≤ n
@@ -44,26 +45,27 @@ module _ (o : ℕ) (listed : is_listed o ≡ true) where
   listed_rule : (f : ℕ → Bool) → T (all f (first_opcodes ++ added_opcodes)) → T (f o)
   listed_rule f t = member f (first_opcodes ++ added_opcodes) t o (subst T (sym listed) tt)
 
-  pub in_table : o < 46
-  unfolding all
-  in_table = ltb→lt o 46 (listed_rule (λ k. ltb k 46) tt)
-
   pub opcode_name_lem : take (3 * o + 3 - 3 * o) (drop (3 * o) opcodes) ≡ opcode_name o
   unfolding all opcode_name
   opcode_name_lem = equal→eq _ _ (listed_rule (λ k. equal (take (3 * k + 3 - 3 * k) (drop (3 * k) opcodes)) (opcode_name k)) tt)
 
--- ---- registers
+-- ---- registers and stages
 
-abbrev registers : List ℕ
-registers = ascii "vavcvtopv.fsodfcftoc"
+-- a name that both stages have
+pub both_name : (stage : ℕ) {name : List ℕ} → cond (eqb stage 0) name name ≡ name
+both_name stage {name} = go (eqb stage 0)
+  where
+    go : (b : Bool) → cond b name name ≡ name
+    go true = refl
+    go false = refl
 
--- the letters that the code writes: one at the type's row, and a second, but for `v`
-abbrev written : ℕ → ℕ → List ℕ
-written stage kind =
-    (get_or registers (2 * name_row stage kind) 0 ∷ []) ++ when (not (eqb kind 4)) (get_or registers (2 * name_row stage kind + 1) 0 ∷ [])
-
-pub register_name_lem : (stage kind : ℕ) → stage ≤ 1 → kind ≤ 6 → written stage kind ≡ register_name stage kind
+pub no_name : (stage kind : ℕ) → 7 ≤ kind → register_name stage kind ≡ []
 unfolding register_name
-register_name_lem stage kind s k =
-    let test : ℕ → ℕ → Bool = λ stage kind. equal (written stage kind) (register_name stage kind) in
-    equal→eq _ _ (below (test stage) 7 (below (λ stage. every (test stage) 7) 2 tt stage (omega arith)) kind (omega arith))
+no_name stage kind h = rw (get_or-eq_default register_names ("", "") h) (both_name stage)
+
+pub stage_name_lem : (stage : ℕ) {n : ℕ} → n ≡ min stage 1 → stage_name n ≡ stage_name stage
+stage_name_lem stage {n} e =
+    elim (dec_lt stage 1) [
+      | yes l ↦ let f : n ≡ stage = omega (arith, e, l) in rw f refl
+      | no l ↦ simp (ne_eqb n 0 (λ z. omega (arith, e, l, z)), ne_eqb stage 0 (λ z. omega (arith, l, z)))
+    ]

@@ -1,15 +1,14 @@
 -- The decimal notation of a number: `decimal` is the one and only, and its digits counted from the largest unit.
 -- Assumes nothing.
-use Prim.Native.Nat.{ℕ, zero, suc, ◌+◌, ◌-◌, ◌*◌, ◌/◌, ◌%◌, ◌^◌, ◌<◌, ◌≤◌}
-use mathlib.Core.Bool.{Bool}
+use Prim.Native.Nat.{ℕ, zero, suc, ◌+◌, ◌-◌, ◌*◌, ◌/◌, ◌%◌, ◌<◌, ◌≤◌}
 use mathlib.Core.List.{List, [], ◌∷◌, ◌++◌, append-nil, append_assoc}
-use mathlib.Core.Path.{◌≡◌, ◌∙◌, sym, ap}
+use mathlib.Core.Path.{◌≡◌, refl, ◌∙◌, sym, ap}
 use native.Mathlib.Decide.{dec_lt, dec_le}
 use native.Mathlib.Omega.{arith}
-use lib.IntN.{ℤ}
-use lib.Pow.{pow-add}
+use lib.IntN.{ℤ, pos, negsuc, nat_abs}
+use lib.Signed.{lt_z}
 use borrow.Author.Tests.{lt-ltb, le-ltb, le-leb, lt-leb}
-use Rattle.listing.specs.Decimal.{digit, AreDigits, said_after, NoLeadingZero, IsDecimal, notation, decimal, is_negative, magnitude, signed_decimal}
+use Rattle.listing.specs.Decimal.{digit, AreDigits, said_after, NoLeadingZero, IsDecimal, notation, decimal, signed_decimal}
 use Rattle.listing.specs.computed.Writers.{digit_at}
 use Rattle.listing.specs.Text.{ascii, when}
 
@@ -32,14 +31,6 @@ one_digit n h = simp (lt-ltb n 10 h)
 pub more_digits : (n : ℕ) → 10 ≤ n → decimal n ≡ decimal (n / 10) ++ (digit (n % 10) ∷ [])
 unfolding decimal
 more_digits n h = rw (le-ltb n 10 h, enough n (suc (n / 10)) (n / 10) (omega arith) (omega arith))
-
--- a tenth of a number has one digit less
-pub tenth_digits : (n m : ℕ) → 10 ≤ n → n < 10 ^ (m + 1) → (1 ≤ m) × (n / 10 < 10 ^ m)
-tenth_digits n m h k = let p : 10 ^ (m + 1) ≡ 10 ^ m * 10 = pow-add 10 m 1 in (several m p k, omega (arith, p, k))
-  where
-    several : (m : ℕ) → 10 ^ (m + 1) ≡ 10 ^ m * 10 → n < 10 ^ (m + 1) → 1 ≤ m
-    several zero p k = absurd (omega (arith, h, p, k))
-    several (suc m) p k = omega arith
 
 -- ---- it is a decimal notation
 
@@ -103,9 +94,10 @@ unique n (b ∷ (d ∷ ds)) i =
 
 -- ---- a signed number
 
-pub signed : (z : ℤ) {negative : Bool} {n : ℕ} → negative ≡ is_negative z → n ≡ magnitude z → signed_decimal z ≡ when negative (ascii "-") ++ decimal n
+pub signed : (z : ℤ) → signed_decimal z ≡ when (lt_z z (pos 0)) (ascii "-") ++ decimal (nat_abs z)
 unfolding signed_decimal
-signed z e f = rw (e, f)
+signed (pos n) = simp (le-ltb n 0 (omega arith)) refl
+signed (negsuc n) = refl
 
 -- ---- digits by their units
 

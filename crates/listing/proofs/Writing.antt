@@ -3,12 +3,12 @@
 use Prim.Native.Nat.{ℕ, zero, suc, ◌+◌, ◌-◌, ◌≤◌, ◌<◌}
 use mathlib.Core.List.{List, [], ◌∷◌, ◌++◌, append-nil, append_assoc}
 use mathlib.Core.Path.{◌≡◌, refl, ◌∙◌, sym, ap}
-use native.Mathlib.Nat.{le_refl}
 use native.Mathlib.Numerals.{add-one}
 use native.Mathlib.Omega.{arith}
-use lib.ListN.{length, take, drop, set, get_or, replicate, take-append-drop}
-use lib.Seq.{paste, paste-suc, take-suc-set, take-paste, drop-paste, take-length, length-take-le, drop-drop, drop-set-lt, take-append-add, take-append-le, drop-append-add, drop-append-le}
-use Rattle.listing.specs.computed.Writers.{Appends}
+use lib.ListN.{length, take, drop, set, replicate, take-append-drop}
+use lib.Seq.{take-suc-set, length-take-le, drop-drop, drop-set-lt, take-append-add, take-append-le, drop-append-add, drop-append-le}
+use Rattle.listing.specs.computed.Writers.{Appends, Writes}
+use Rattle.listing.specs.declared.text.Writer.{Writer}
 
 -- one byte more
 pub one : (l : List ℕ) (at b : ℕ) → at + 1 ≤ length l → Appends (b ∷ []) 1 at l (set l at b) (at + 1)
@@ -42,9 +42,17 @@ pub ◌then◌ : {a b : List ℕ} {j k at p r : ℕ} {l m n : List ℕ} → Appe
       rest = f.rest ∙ onwards p r m l f.onward e.rest;
     }
 
+-- one item of a writer after another
+infixl 65 ◌and◌
+pub ◌and◌ : {a b : List ℕ} {j k : ℕ} {u v w : Writer} → Writes a j u v → Writes b k v w → Writes (a ++ b) (j + k) u w
+◌and◌ e f = record { same = f.same ∙ e.same; size = f.size ∙ e.size; appends = e.appends then f.appends }
+
 -- more room than an item needs
 pub within : {a : List ℕ} {j at r : ℕ} {l m : List ℕ} (k : ℕ) → j ≤ k → Appends a j at l m r → Appends a k at l m r
 within k h e = record { text = e.text; onward = e.onward; room = omega (arith, h, e.room); rest = e.rest }
+
+pub at_most : {a : List ℕ} {j : ℕ} {u v : Writer} (k : ℕ) → j ≤ k → Writes a j u v → Writes a k u v
+at_most k h e = record { same = e.same; size = e.size; appends = within k h e.appends }
 
 -- an item at the start of a part that was lent, seen in the whole
 pub in_part : {item after : List ℕ} {most n : ℕ} (l : List ℕ) (at k : ℕ) → at ≤ length l → n ≤ length after
@@ -72,27 +80,13 @@ in_part {item} {after} {n = n} l at k h inside same a =
           ∙ drop-drop n at l;
     }
 
+-- a writer's item at the start of a buffer that was lent to it
+pub from_start : {item before after : List ℕ} {most n : ℕ} {u v : Writer} → Writes item most u v → u.out.now ≡ before → u.at ≡ 0 → v.out.now ≡ after → n ≡ v.at →
+    Appends item most 0 before after n
+from_start e b z a l = rw (← b, ← a, l, ← z) e.appends
+
 -- a part of equal bytes
 pub take-replicate : (n m b : ℕ) → n ≤ m → take n (replicate m b) ≡ replicate n b
 take-replicate zero m b h = refl
 take-replicate (suc n) zero b h = absurd (omega arith)
 take-replicate (suc n) (suc m) b h = ap (λ (t : List ℕ). b ∷ t) (take-replicate n m b (omega arith))
-
--- a turn of the loop that copies
-pub turn : (l : List ℕ) (at : ℕ) (bytes : List ℕ) {i : ℕ} {m : List ℕ} → at + i < length l → i < length bytes →
-    m ≡ paste l at bytes i → set m (at + i) (get_or bytes i 0) ≡ paste l at bytes (i + 1)
-turn l at bytes {i} h k e = rw (e, add-one) (paste-suc l at bytes i 0 h k)
-
--- all bytes are copied
-pub copied : (l : List ℕ) (at : ℕ) (bytes : List ℕ) {i : ℕ} {m : List ℕ} → at + length bytes ≤ length l → i ≡ length bytes →
-    m ≡ paste l at bytes i → Appends bytes (length bytes) at l m (at + i)
-copied l at bytes h e f =
-    let inside : at ≤ length l = omega arith in
-    let whole = le_refl (length bytes) in
-    rw (f, e)
-    (record {
-      text = take-paste l at bytes (length bytes) inside whole ∙ ap (λ (t : List ℕ). take at l ++ t) (take-length bytes);
-      onward = omega arith;
-      room = le_refl (at + length bytes);
-      rest = drop-paste l at bytes (length bytes) inside whole;
-    })

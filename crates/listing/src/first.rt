@@ -2,10 +2,12 @@
 ghost use Rattle.std.specs.Prelude.{◌++◌, ◌+◌, ◌≤◌, length};
 ghost use Rattle.listing.specs.Decimal.{decimal};
 ghost use Rattle.listing.specs.First.{heading_line, refusal_line, first_line};
-ghost use Rattle.listing.specs.computed.Writers.{first_most, Appends};
+ghost use Rattle.listing.specs.computed.Writers.{first_most, Appends, HasRoom, Writes};
 ghost use Rattle.listing.specs.Printing.{Prints};
 
-use crate::{decimal, printing, text};
+use crate::printing;
+use crate::stage::Stage;
+use crate::text::Writer;
 use bytecode::answers::Refusal;
 
 // An accepted program.
@@ -41,44 +43,55 @@ fn put_first_line(out: &mut [u8], first: FirstLine) -> usize
     requires { 49 ≤ length out.old }
     ensures { Appends (first_line first) (first_most first) 0 out.old out.new result }
 {
-    match first {
-        FirstLine::Accepted(heading) => put_heading(out, heading),
-        FirstLine::Refused(r) => put_refusal(out, r),
-        FirstLine::NoEdition => text::put_bytes(out, 0, b"no edition\n"),
-        FirstLine::InputTooLong => text::put_bytes(out, 0, b"input too long\n"),
+    let mut w = Writer::new(out);
+    w.first_line(first);
+    w.length()
+}
+
+impl Writer<'_> {
+    fn first_line(&mut self, first: FirstLine)
+        requires { HasRoom 49 self.old }
+        ensures { Writes (first_line first) (first_most first) self.old self.new }
+    {
+        match first {
+            FirstLine::Accepted(heading) => self.heading(heading),
+            FirstLine::Refused(r) => self.refusal(r),
+            FirstLine::NoEdition => self.bytes(b"no edition\n"),
+            FirstLine::InputTooLong => self.bytes(b"input too long\n"),
+        }
     }
-}
 
-// `agal 1 vertex 2`
-fn put_heading(out: &mut [u8], heading: Heading) -> usize
-    requires { 34 ≤ length out.old }
-    ensures { Appends (heading_line heading) 34 0 out.old out.new result }
-{
-    let p1 = put_numbered(out, 0, b"agal ", heading.edition);
-    let p2 = text::put_byte(out, p1, b' ');
-    let p3 = text::put_either(out, p2, heading.stage == 0, b"vertex", b"fragment");
-    let p4 = put_numbered(out, p3, b" ", heading.tokens);
-    text::put_byte(out, p4, b'\n')
-}
+    // `agal 1 vertex 2`
+    fn heading(&mut self, heading: Heading)
+        requires { HasRoom 34 self.old }
+        ensures { Writes (heading_line heading) 34 self.old self.new }
+    {
+        self.numbered(b"agal ", heading.edition);
+        self.byte(b' ');
+        self.bytes(Stage::of(heading.stage).name());
+        self.numbered(b" ", heading.tokens);
+        self.byte(b'\n');
+    }
 
-// `refused 14 at 0 part 1`
-fn put_refusal(out: &mut [u8], r: Refusal) -> usize
-    requires { 49 ≤ length out.old }
-    ensures { Appends (refusal_line r) 49 0 out.old out.new result }
-{
-    let p1 = put_numbered(out, 0, b"refused ", r.number as u16);
-    let p2 = text::put_bytes(out, p1, b" at ");
-    // No usize has more than 20 digits.
-    let p3 = decimal::put_long(out, p2, r.token, 20);
-    let p4 = put_numbered(out, p3, b" part ", r.part as u16);
-    text::put_byte(out, p4, b'\n')
-}
+    // `refused 14 at 0 part 1`
+    fn refusal(&mut self, r: Refusal)
+        requires { HasRoom 49 self.old }
+        ensures { Writes (refusal_line r) 49 self.old self.new }
+    {
+        self.numbered(b"refused ", u16::from(r.number));
+        self.bytes(b" at ");
+        // No usize has more than 20 digits.
+        self.long(r.token, 20);
+        self.numbered(b" part ", u16::from(r.part));
+        self.byte(b'\n');
+    }
 
-// A word and a number after it.
-fn put_numbered(out: &mut [u8], at: usize, word: &[u8], n: u16) -> usize
-    requires { at + (length word.now + 5) ≤ length out.old }
-    ensures { Appends (word.now ++ decimal n) (length word.now + 5) at out.old out.new result }
-{
-    let p = text::put_bytes(out, at, word);
-    decimal::put_decimal(out, p, n)
+    // A word and a number after it.
+    fn numbered(&mut self, word: &[u8], n: u16)
+        requires { HasRoom (length word.now + 5) self.old }
+        ensures { Writes (word.now ++ decimal n) (length word.now + 5) self.old self.new }
+    {
+        self.bytes(word);
+        self.decimal(n);
+    }
 }

@@ -1,72 +1,67 @@
 // The items of a line: indentation, a register with its number, mask letters, swizzle letters.
-ghost use Rattle.std.specs.Prelude.{◌≡◌, [], ◌∷◌, ◌+◌, ◌≤◌, length};
-ghost use Rattle.listing.specs.computed.Writers.{Appends};
+ghost use Rattle.std.specs.Prelude.{◌≡◌, [], ◌∷◌, ◌≤◌};
+ghost use Rattle.listing.specs.computed.Writers.{HasRoom, Writes, stage_number};
 ghost use Rattle.listing.specs.Items.{indentation, register_text, component_letter, mask_text, swizzle_text};
 
-use crate::{decimal, names, text};
+use crate::stage::Stage;
+use crate::text::Writer;
 
-// Two spaces for each level of depth.
-pub(crate) fn put_indentation(out: &mut [u8], at: usize, depth: u8) -> usize
-    requires at_in_bounds { at + 32 ≤ length out.old }
-    requires depth_bound { depth ≤ 16 }
-    ensures { Appends (indentation depth) 32 at out.old out.new result }
-{
-    let spaces = [b' '; 32];
-    let width = 2 * depth as usize;
-    text::put_bytes(out, at, &spaces[..width])
-}
-
-pub(crate) fn put_register(out: &mut [u8], at: usize, stage: u8, kind: u8, number: u16) -> usize
-    requires at_in_bounds { at + 7 ≤ length out.old }
-    requires stage_bound { stage ≤ 1 }
-    requires kind_bound { kind ≤ 6 }
-    ensures { Appends (register_text stage kind number) 7 at out.old out.new result }
-{
-    let p = names::put_register_name(out, at, stage, kind);
-    decimal::put_decimal(out, p, number)
-}
-
-pub(crate) fn put_mask(out: &mut [u8], at: usize, mask: u8) -> usize
-    requires { at + 5 ≤ length out.old }
-    ensures { Appends (mask_text mask) 5 at out.old out.new result }
-{
-    let p1 = text::put_byte(out, at, b'.');
-    let p2 = text::put_when(out, p1, layout::mask_has(mask, 0), b'x');
-    let p3 = text::put_when(out, p2, layout::mask_has(mask, 1), b'y');
-    let p4 = text::put_when(out, p3, layout::mask_has(mask, 2), b'z');
-    text::put_when(out, p4, layout::mask_has(mask, 3), b'w')
-}
-
-pub(crate) fn put_swizzle(out: &mut [u8], at: usize, swizzle: u8) -> usize
-    requires { at + 5 ≤ length out.old }
-    ensures { Appends (swizzle_text swizzle) 5 at out.old out.new result }
-{
-    let p1 = text::put_byte(out, at, b'.');
-    let p2 = put_component(out, p1, layout::selector(swizzle, 0));
-    let p3 = put_component(out, p2, layout::selector(swizzle, 1));
-    let p4 = put_component(out, p3, layout::selector(swizzle, 2));
-    put_component(out, p4, layout::selector(swizzle, 3))
-}
-
-// The letter of a component.
-pub(crate) fn put_component(out: &mut [u8], at: usize, component: u8) -> usize
-    requires { at + 1 ≤ length out.old }
-    ensures { Appends (component_letter component ∷ []) 1 at out.old out.new result }
-{
-    text::put_byte(out, at, letter(component))
-}
-
-fn letter(component: u8) -> u8
-    ensures { result ≡ component_letter component }
-{
-    if component == 0 {
-        return b'x';
+impl Writer<'_> {
+    // Two spaces for each level of depth.
+    #[inline(always)]
+    pub(crate) fn indentation(&mut self, depth: u8)
+        requires room { HasRoom 32 self.old }
+        requires depth { depth ≤ 16 }
+        ensures { Writes (indentation depth) 32 self.old self.new }
+    {
+        let spaces = [b' '; 32];
+        self.bytes(&spaces[..2 * depth as usize]);
     }
-    if component == 1 {
-        return b'y';
+
+    #[inline(always)]
+    pub(crate) fn register(&mut self, stage: Stage, kind: u8, number: u16)
+        requires { HasRoom 7 self.old }
+        ensures { Writes (register_text (stage_number stage) kind number) 7 self.old self.new }
+    {
+        self.register_name(stage, kind);
+        self.decimal(number);
     }
-    if component == 2 {
-        return b'z';
+
+    #[inline(always)]
+    pub(crate) fn mask(&mut self, mask: u8)
+        requires { HasRoom 5 self.old }
+        ensures { Writes (mask_text mask) 5 self.old self.new }
+    {
+        self.byte(b'.');
+        self.when(layout::mask_has(mask, 0), b'x');
+        self.when(layout::mask_has(mask, 1), b'y');
+        self.when(layout::mask_has(mask, 2), b'z');
+        self.when(layout::mask_has(mask, 3), b'w');
     }
-    b'w'
+
+    #[inline(always)]
+    pub(crate) fn swizzle(&mut self, swizzle: u8)
+        requires { HasRoom 5 self.old }
+        ensures { Writes (swizzle_text swizzle) 5 self.old self.new }
+    {
+        self.byte(b'.');
+        self.component(layout::selector(swizzle, 0));
+        self.component(layout::selector(swizzle, 1));
+        self.component(layout::selector(swizzle, 2));
+        self.component(layout::selector(swizzle, 3));
+    }
+
+    // The letter of a component.
+    #[inline(always)]
+    pub(crate) fn component(&mut self, component: u8)
+        requires { HasRoom 1 self.old }
+        ensures { Writes (component_letter component ∷ []) 1 self.old self.new }
+    {
+        self.byte(match component {
+            0 => b'x',
+            1 => b'y',
+            2 => b'z',
+            _ => b'w',
+        });
+    }
 }

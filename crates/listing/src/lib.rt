@@ -10,6 +10,7 @@ mod names;
 mod operands;
 mod printing;
 mod settings;
+mod stage;
 mod text;
 
 pub use first::first_line;

@@ -3,7 +3,9 @@ ghost use Rattle.std.specs.Prelude.{◌≤◌, length};
 ghost use Rattle.listing.specs.Line.{line_of, Lists};
 ghost use Rattle.listing.specs.computed.Writers.{Appends, Nameable};
 
-use crate::{items, nameable, names, operands, printing, text};
+use crate::stage::Stage;
+use crate::text::Writer;
+use crate::{nameable, printing};
 use bytecode::answers::Refusal;
 use layout::record::Token;
 
@@ -26,16 +28,17 @@ pub fn line(token: Token, stage: u8, depth: u8, out: &mut [u8]) -> Result<usize,
 
 fn put_line(out: &mut [u8], token: Token, stage: u8, depth: u8) -> usize
     requires in_bounds { 128 ≤ length out.old }
-    requires nameable { Nameable token stage depth }
+    requires stage { stage ≤ 1 }
+    requires nameable { Nameable token depth }
     ensures { Appends (line_of token stage depth) 128 0 out.old out.new result }
 {
-    let destination = token.destination;
-    let source1 = token.source1;
-    let source2 = token.source2;
-    let p1 = items::put_indentation(out, 0, depth);
-    let p2 = names::put_opcode(out, p1, token.opcode);
-    let p3 = operands::put_destination(out, p2, stage, destination);
-    let p4 = operands::put_operand(out, p3, stage, source1);
-    let p5 = operands::put_operand(out, p4, stage, source2);
-    text::put_byte(out, p5, b'\n')
+    let stage = Stage::of(stage);
+    let mut w = Writer::new(out);
+    w.indentation(depth);
+    w.opcode(token.opcode);
+    w.destination(stage, token.destination);
+    w.operand(stage, token.source1);
+    w.operand(stage, token.source2);
+    w.byte(b'\n');
+    w.length()
 }

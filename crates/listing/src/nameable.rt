@@ -7,15 +7,12 @@ use layout::record::{MaskedRegister, Operand, Token};
 pub(crate) fn nameable(token: Token, stage: u8, depth: u8) -> bool
     ensures { result ≡ is_nameable token stage depth }
 {
-    let destination = token.destination;
-    let source1 = token.source1;
-    let source2 = token.source2;
     bytecode::encodable(token)
         & (stage <= 1)
         & (depth <= 16)
-        & destination_has_names(destination)
-        & operand_has_names(source1)
-        & operand_has_names(source2)
+        & destination_has_names(token.destination)
+        & operand_has_names(token.source1)
+        & operand_has_names(token.source2)
 }
 
 fn destination_has_names(destination: Option<MaskedRegister>) -> bool

@@ -1,47 +1,85 @@
-// The names of opcodes and registers.
-ghost use Rattle.std.specs.Prelude.{true, ◌≡◌, ◌+◌, ◌≤◌, length};
+// The names of opcodes, registers and sampler settings.
+ghost use Rattle.std.specs.Prelude.{true, ◌≡◌, ◌≤◌, length};
 ghost use Rattle.layout.specs.Opcodes.{is_listed};
-ghost use Rattle.listing.specs.Names.{opcode_name, register_name};
-ghost use Rattle.listing.specs.computed.Writers.{Appends, name_row};
+ghost use Rattle.listing.specs.Names.{opcode_name, register_name, dimension_name, mipmap_name, wrap_name, filter_name};
+ghost use Rattle.listing.specs.computed.Writers.{HasRoom, Writes, stage_number};
 
-use crate::text;
+use crate::stage::Stage;
+use crate::text::Writer;
 
 // By opcode, three letters each, from mov, 00, to sne, 2d; dots where no opcode is listed.
 const OPCODES: [u8; 138] =
     *b"movaddsubmuldivrcpminmaxfrcsqtrsqpowlogexpnrmsincoscrsdp3dp4absnegsatm33m44m34ddxddyifeineifgiflelseif...............kiltexsgeslt...seqsne";
 
-// By register type, two letters each; then the names of types 1, 2 and 3 in a fragment program. `v` is one letter.
-const REGISTERS: [u8; 20] = *b"vavcvtopv.fsodfcftoc";
-
-pub(crate) fn put_opcode(out: &mut [u8], at: usize, opcode: u32) -> usize
-    requires at_in_bounds { at + 3 ≤ length out.old }
-    requires opcode_value { is_listed opcode ≡ true }
-    ensures { Appends (opcode_name opcode) 3 at out.old out.new result }
-{
-    let from = 3 * opcode as usize;
-    text::put_bytes(out, at, &OPCODES[from..from + 3])
-}
-
-// Letter by letter: a copy of a part of the table would be a call for one or two bytes.
-pub(crate) fn put_register_name(out: &mut [u8], at: usize, stage: u8, kind: u8) -> usize
-    requires at_in_bounds { at + 2 ≤ length out.old }
-    requires stage_bound { stage ≤ 1 }
-    requires kind_bound { kind ≤ 6 }
-    ensures { Appends (register_name stage kind) 2 at out.old out.new result }
-{
-    let from = 2 * row(stage, kind);
-    let names = REGISTERS;
-    let p = text::put_byte(out, at, names[from]);
-    text::put_when(out, p, kind != 4, names[from + 1])
-}
-
-// Where a type's name stands in the table.
-fn row(stage: u8, kind: u8) -> usize
-    requires { kind ≤ 6 }
-    ensures { (result ≡ name_row stage kind) × (result ≤ 9) }
-{
-    if (stage == 1) & (1 <= kind) & (kind <= 3) {
-        return 6 + kind as usize;
+impl Writer<'_> {
+    #[inline(always)]
+    pub(crate) fn opcode(&mut self, opcode: u32)
+        requires room { HasRoom 3 self.old }
+        requires listed { is_listed opcode ≡ true }
+        ensures { Writes (opcode_name opcode) 3 self.old self.new }
+    {
+        let from = 3 * opcode as usize;
+        self.bytes(&OPCODES[from..from + 3]);
     }
-    kind as usize
+
+    #[inline(always)]
+    pub(crate) fn register_name(&mut self, stage: Stage, kind: u8)
+        requires { HasRoom 2 self.old }
+        ensures { Writes (register_name (stage_number stage) kind) 2 self.old self.new }
+    {
+        self.bytes(register_name(stage, kind));
+    }
+}
+
+// No type above 6 has a name.
+#[inline(always)]
+fn register_name(stage: Stage, kind: u8) -> &'static [u8]
+    ensures name { result.now ≡ register_name (stage_number stage) kind }
+    ensures short { length result.now ≤ 2 }
+{
+    match (kind, stage) {
+        (0, _) => b"va",
+        (1, Stage::Vertex) => b"vc",
+        (1, Stage::Fragment) => b"fc",
+        (2, Stage::Vertex) => b"vt",
+        (2, Stage::Fragment) => b"ft",
+        (3, Stage::Vertex) => b"op",
+        (3, Stage::Fragment) => b"oc",
+        (4, _) => b"v",
+        (5, _) => b"fs",
+        (6, _) => b"od",
+        _ => b"",
+    }
+}
+
+pub(crate) fn dimension_name(dimension: u8) -> &'static [u8]
+    ensures name { result.now ≡ dimension_name dimension }
+    ensures short { length result.now ≤ 4 }
+{
+    if dimension == 0 { b"2d" } else { b"cube" }
+}
+
+pub(crate) fn mipmap_name(mipmap: u8) -> &'static [u8]
+    ensures name { result.now ≡ mipmap_name mipmap }
+    ensures short { length result.now ≤ 10 }
+{
+    match mipmap {
+        0 => b"mipnone",
+        1 => b"mipnearest",
+        _ => b"miplinear",
+    }
+}
+
+pub(crate) fn wrap_name(wrap: u8) -> &'static [u8]
+    ensures name { result.now ≡ wrap_name wrap }
+    ensures short { length result.now ≤ 6 }
+{
+    if wrap == 0 { b"clamp" } else { b"repeat" }
+}
+
+pub(crate) fn filter_name(filter: u8) -> &'static [u8]
+    ensures name { result.now ≡ filter_name filter }
+    ensures short { length result.now ≤ 7 }
+{
+    if filter == 0 { b"nearest" } else { b"linear" }
 }

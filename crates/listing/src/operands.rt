@@ -1,100 +1,89 @@
 // The operands of a line, each with the space before it.
-ghost use Rattle.std.specs.Prelude.{true, ◌≡◌, ◌+◌, ◌≤◌, length};
 ghost use Rattle.listing.specs.Items.{masked_text, direct_text, index_text, indexed_text, sampler_text, destination_text, operand_text};
-ghost use Rattle.listing.specs.computed.Writers.{Appends, operand_room};
-ghost use Rattle.listing.specs.Line.{destination_has_names, operand_has_names};
+ghost use Rattle.listing.specs.computed.Writers.{HasRoom, Writes, stage_number, operand_room};
 
-use crate::{decimal, items, names, settings, text};
+use crate::stage::Stage;
+use crate::text::Writer;
 use layout::record::{DirectSource, IndexedSource, MaskedRegister, Operand, Sampler};
 
-pub(crate) fn put_destination(
-    out: &mut [u8],
-    at: usize,
-    stage: u8,
-    destination: Option<MaskedRegister>,
-) -> usize
-    requires at_in_bounds { at + 13 ≤ length out.old }
-    requires stage_bound { stage ≤ 1 }
-    requires destination_value { destination_has_names destination ≡ true }
-    ensures { Appends (destination_text stage destination) 13 at out.old out.new result }
-{
-    match destination {
-        None => at,
-        Some(register) => put_masked(out, at, stage, register),
+impl Writer<'_> {
+    #[inline(always)]
+    pub(crate) fn destination(&mut self, stage: Stage, destination: Option<MaskedRegister>)
+        requires { HasRoom 13 self.old }
+        ensures { Writes (destination_text (stage_number stage) destination) 13 self.old self.new }
+    {
+        match destination {
+            None => {}
+            Some(register) => self.masked(stage, register),
+        }
     }
-}
 
-pub(crate) fn put_operand(out: &mut [u8], at: usize, stage: u8, operand: Operand) -> usize
-    requires operand_in_bounds { at + operand_room operand ≤ length out.old }
-    requires stage_bound { stage ≤ 1 }
-    requires operand_value { operand_has_names operand ≡ true }
-    ensures { Appends (operand_text stage operand) (operand_room operand) at out.old out.new result }
-{
-    match operand {
-        Operand::Unused => at,
-        Operand::Direct(source) => put_direct(out, at, stage, source),
-        Operand::Indexed(source) => put_indexed(out, at, stage, source),
-        Operand::Sampler(sampler) => put_sampler(out, at, stage, sampler),
+    #[inline(always)]
+    pub(crate) fn operand(&mut self, stage: Stage, operand: Operand)
+        requires { HasRoom (operand_room operand) self.old }
+        ensures { Writes (operand_text (stage_number stage) operand) (operand_room operand) self.old self.new }
+    {
+        match operand {
+            Operand::Unused => {}
+            Operand::Direct(source) => self.direct(stage, source),
+            Operand::Indexed(source) => self.indexed(stage, source),
+            Operand::Sampler(sampler) => self.sampler(stage, sampler),
+        }
     }
-}
 
-fn put_masked(out: &mut [u8], at: usize, stage: u8, r: MaskedRegister) -> usize
-    requires at_in_bounds { at + 13 ≤ length out.old }
-    requires stage_bound { stage ≤ 1 }
-    requires kind_bound { r.kind ≤ 6 }
-    ensures { Appends (masked_text stage r) 13 at out.old out.new result }
-{
-    let p1 = text::put_byte(out, at, b' ');
-    let p2 = items::put_register(out, p1, stage, r.kind, r.number);
-    items::put_mask(out, p2, r.mask)
-}
+    #[inline(always)]
+    fn masked(&mut self, stage: Stage, r: MaskedRegister)
+        requires { HasRoom 13 self.old }
+        ensures { Writes (masked_text (stage_number stage) r) 13 self.old self.new }
+    {
+        self.byte(b' ');
+        self.register(stage, r.kind, r.number);
+        self.mask(r.mask);
+    }
 
-fn put_direct(out: &mut [u8], at: usize, stage: u8, s: DirectSource) -> usize
-    requires at_in_bounds { at + 13 ≤ length out.old }
-    requires stage_bound { stage ≤ 1 }
-    requires kind_bound { s.kind ≤ 6 }
-    ensures { Appends (direct_text stage s) 13 at out.old out.new result }
-{
-    let p1 = text::put_byte(out, at, b' ');
-    let p2 = items::put_register(out, p1, stage, s.kind, s.number);
-    items::put_swizzle(out, p2, s.swizzle)
-}
+    #[inline(always)]
+    fn direct(&mut self, stage: Stage, s: DirectSource)
+        requires { HasRoom 13 self.old }
+        ensures { Writes (direct_text (stage_number stage) s) 13 self.old self.new }
+    {
+        self.byte(b' ');
+        self.register(stage, s.kind, s.number);
+        self.swizzle(s.swizzle);
+    }
 
-fn put_indexed(out: &mut [u8], at: usize, stage: u8, s: IndexedSource) -> usize
-    requires at_in_bounds { at + 25 ≤ length out.old }
-    requires stage_bound { stage ≤ 1 }
-    requires kind_bound { (s.kind ≤ 6) × (s.index_kind ≤ 6) }
-    ensures { Appends (indexed_text stage s) 25 at out.old out.new result }
-{
-    let p1 = text::put_byte(out, at, b' ');
-    let p2 = names::put_register_name(out, p1, stage, s.kind);
-    let p3 = put_index(out, p2, stage, s);
-    items::put_swizzle(out, p3, s.swizzle)
-}
+    #[inline(always)]
+    fn indexed(&mut self, stage: Stage, s: IndexedSource)
+        requires { HasRoom 25 self.old }
+        ensures { Writes (indexed_text (stage_number stage) s) 25 self.old self.new }
+    {
+        self.byte(b' ');
+        self.register_name(stage, s.kind);
+        self.index(stage, s);
+        self.swizzle(s.swizzle);
+    }
 
-// The index register, its component, and the offset, in brackets.
-fn put_index(out: &mut [u8], at: usize, stage: u8, s: IndexedSource) -> usize
-    requires at_in_bounds { at + 17 ≤ length out.old }
-    requires stage_bound { stage ≤ 1 }
-    requires index_kind_bound { s.index_kind ≤ 6 }
-    ensures { Appends (index_text stage s) 17 at out.old out.new result }
-{
-    let p1 = text::put_byte(out, at, b'[');
-    let p2 = items::put_register(out, p1, stage, s.index_kind, s.number);
-    let p3 = text::put_byte(out, p2, b'.');
-    let p4 = items::put_component(out, p3, s.component);
-    let p5 = text::put_byte(out, p4, b'+');
-    let p6 = decimal::put_decimal(out, p5, s.offset as u16);
-    text::put_byte(out, p6, b']')
-}
+    // The index register, its component, and the offset, in brackets.
+    #[inline(always)]
+    fn index(&mut self, stage: Stage, s: IndexedSource)
+        requires { HasRoom 17 self.old }
+        ensures { Writes (index_text (stage_number stage) s) 17 self.old self.new }
+    {
+        self.byte(b'[');
+        self.register(stage, s.index_kind, s.number);
+        self.byte(b'.');
+        self.component(s.component);
+        self.byte(b'+');
+        self.decimal(u16::from(s.offset));
+        self.byte(b']');
+    }
 
-fn put_sampler(out: &mut [u8], at: usize, stage: u8, s: Sampler) -> usize
-    requires at_in_bounds { at + 52 ≤ length out.old }
-    requires stage_bound { stage ≤ 1 }
-    requires kind_bound { s.kind ≤ 6 }
-    ensures { Appends (sampler_text stage s) 52 at out.old out.new result }
-{
-    let p1 = text::put_byte(out, at, b' ');
-    let p2 = items::put_register(out, p1, stage, s.kind, s.number);
-    settings::put_settings(out, p2, s)
+    #[inline(always)]
+    fn sampler(&mut self, stage: Stage, s: Sampler)
+        requires { HasRoom 52 self.old }
+        ensures { Writes (sampler_text (stage_number stage) s) 52 self.old self.new }
+    {
+        self.byte(b' ');
+        self.register(stage, s.kind, s.number);
+        self.settings(s);
+    }
 }

@@ -1,7 +1,9 @@
 // A whole text into a lent buffer, or the refusal with every byte as it was.
+// `line` and `first_line` end alike, each with its own length. One function for both, which takes what writes as a closure, needs more lines
+// of clauses (a ghost value for the text, a `requires` for each call, and a closure with clauses of its own at each of the two) than it saves.
 ghost use Rattle.listing.specs.Printing.{Prints};
 
-use crate::text;
+use crate::text::Writer;
 use bytecode::answers::Refusal;
 
 pub(crate) fn print(text: &[u8], out: &mut [u8]) -> Result<usize, Refusal>
@@ -10,5 +12,7 @@ pub(crate) fn print(text: &[u8], out: &mut [u8]) -> Result<usize, Refusal>
     if out.len() < text.len() {
         return Err(bytecode::refusal(23, 0, 0));
     }
-    Ok(text::put_bytes(out, 0, text))
+    let mut w = Writer::new(out);
+    w.bytes(text);
+    Ok(w.length())
 }

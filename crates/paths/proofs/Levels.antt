@@ -1,31 +1,18 @@
 -- The check's sets, level by level, against the paths: a set lacks a component exactly when some path at that level has not written it.
 -- Assumes nothing.
 use mathlib.Core.Path.{◌≡◌, refl, ap, ◌∙◌}
-use mathlib.Core.Bool.{Bool, true, false, cond, ◌&&◌, ◌||◌, true≢false}
+use mathlib.Core.Bool.{Bool, true, false, cond, ◌||◌}
 use mathlib.Core.List.{List, [], ◌∷◌}
 use mathlib.Core.Logic.{◌⊎◌, inl, inr}
 use Prim.Native.Nat.{ℕ, zero, suc, ◌≤◌, ◌<◌}
 use native.Mathlib.Omega.{arith}
 use lib.Dec.{eqb, eqb→eq, eqb_refl}
 use lib.ListN.{length}
-use Rattle.laws.proofs.Every.{is_true, neither, both_false}
+use Rattle.std.proofs.lemmas.Bool.{and_left, and_right, and_cases, or_parts, or_from}
+use Rattle.laws.proofs.Every.{is_true}
 use Rattle.paths.specs.Paths.{Flow, plain, opener, els, eif, Path, arrive, leave}
 use Rattle.paths.specs.computed.Sets.{ComponentSet, nothing, has, adds}
 use Rattle.paths.specs.computed.Check.{current_at, kept_at, kept_after}
-
--- ---- booleans that are false
-
-and_left : (a b : Bool) → a ≡ false → (a && b) ≡ false
-and_left true b h = absurd (true≢false h)
-and_left false b h = refl
-
-and_right : (a b : Bool) → b ≡ false → (a && b) ≡ false
-and_right true b h = h
-and_right false b h = refl
-
-and_cases : (a b : Bool) → (a && b) ≡ false → (a ≡ false) ⊎ (b ≡ false)
-and_cases true b h = inr h
-and_cases false b h = inl refl
 
 -- ---- a path with one choice changed
 
@@ -125,7 +112,7 @@ at_complete eif s (k ∷ ks) r (suc d) b c h = (suc (suc d), omega arith, refl, 
 
 write_sound : (s : ComponentSet) (ks : List ComponentSet) (xs : List ℕ) (d : ℕ) (w : ComponentSet) (c : ℕ)
     → (w c ≡ false → level s ks d c ≡ false) → written_at d w xs c ≡ false → level (adds s xs) ks d c ≡ false
-write_sound s ks xs zero w c f h = both_false (s c) (has xs c) (f (neither (w c) (has xs c) h).0) (neither (w c) (has xs c) h).1
+write_sound s ks xs zero w c f h = or_from (s c) (has xs c) (f (or_parts (w c) (has xs c) h).0) (or_parts (w c) (has xs c) h).1
 write_sound s ks xs (suc d) w c f h = f h
 
 write_local : (d : ℕ) (w v : ComponentSet) (xs : List ℕ) (c : ℕ) → w c ≡ v c → written_at d w xs c ≡ written_at d v xs c
@@ -170,8 +157,8 @@ module _ {s : ComponentSet} {ks : List ComponentSet} {n : ℕ} {position : Path 
       back : (d : ℕ) → d ≤ length ks → (c : ℕ) → level (adds s xs) ks d c ≡ false
           → (p : Path) × (position p ≡ d) × (written_at (position p) (written p) xs c ≡ false)
       back zero b c h =
-          let q = l.complete zero b c (neither (s c) (has xs c) h).0 in
-          (q.0, q.1, rw q.1 (both_false (written q.0 c) (has xs c) q.2 (neither (s c) (has xs c) h).1))
+          let q = l.complete zero b c (or_parts (s c) (has xs c) h).0 in
+          (q.0, q.1, rw q.1 (or_from (written q.0 c) (has xs c) q.2 (or_parts (s c) (has xs c) h).1))
       back (suc d) b c h = let q = l.complete (suc d) b c h in (q.0, q.1, rw q.1 q.2)
 
   -- a path that visits the opener n, with the choice b there

@@ -7,7 +7,8 @@ use mathlib.Core.List.{List, [], ◌∷◌, ◌++◌, Memᴰ}
 use mathlib.Core.Logic.{◌⊎◌, inl, inr, ◌↔◌}
 use Prim.Native.Nat.{ℕ}
 use lib.Dec.{eqb, eqb→eq, eqb_refl}
-use Rattle.laws.proofs.Every.{is_true, neither}
+use Rattle.std.proofs.lemmas.Bool.{or_parts}
+use Rattle.laws.proofs.Every.{is_true}
 use Rattle.paths.specs.Paths.{Source, Visit}
 use Rattle.paths.specs.Unwritten.{Unwritten, ReadsUnwritten}
 use Rattle.paths.specs.computed.Sets.{ComponentSet, nothing, has, adds}
@@ -86,7 +87,7 @@ module _ (s : Source) (n : ℕ) where
   )
   sentence (v ∷ later) w (inr r) =
       let (q, l) = sentence later (adds w v.token.writes) r in
-      let (kept, lacked) = neither (w q.component) (has v.token.writes q.component) l in
+      let (kept, lacked) = or_parts (w q.component) (has v.token.writes q.component) l in
       (one_earlier v q lacked, kept)
 
   threaded : (earlier : List Visit) (v : Visit) (later : List Visit) (w : ComponentSet) → v.number ≡ n

@@ -1,6 +1,6 @@
 -- What a read answers, from the number of bytes left, and where it leaves the reader.
 -- Assumes nothing.
-use Rattle.std.specs.Prelude.{Err, Ok, Result}
+use Rattle.std.specs.Prelude.{Err, Ok, Result, ⊤}
 use Prim.Native.Nat.{ℕ, ◌+◌, ◌<◌, ◌≤◌}
 use mathlib.Core.Bool.{Bool, true, false, not, cond}
 use mathlib.Core.List.{List, []}
@@ -8,6 +8,7 @@ use mathlib.Core.Path.{◌≡◌, refl, ◌∙◌, sym, ap}
 use native.Mathlib.Omega.{arith}
 use lib.Dec.{ltb, eqb}
 use lib.ListN.{length}
+use denote.Ref.{Bor}
 use borrow.Author.Tests.{le-ltb, lt-ltb, ltb-true, ltb-false}
 use Rattle.bytecode.specs.Fields.{fields_of}
 use Rattle.bytecode.specs.Decode.{refusal, no_refusal, unused_part, undefined_part, token_fault, decode_fault, decode_of, outcome}
@@ -18,8 +19,9 @@ use Rattle.layout.specs.declared.fields.Fields.{Fields}
 use Rattle.layout.specs.declared.record.Token.{Token}
 use Rattle.bytecode.specs.declared.answers.Refusal.{Refusal}
 use Rattle.layout.specs.Programs.{token_at, token_start, no_token_left}
-use Rattle.reader.specs.Reading.{opening_fault, opening_numbers, opening_of, stands_at, fault_at, read_of, read_fault, place_from, place_after, ReadsAt}
-use Rattle.reader.specs.computed.Steps.{token_bytes, Steps}
+use Rattle.reader.specs.declared.answers.TokenReader.{TokenReader}
+use Rattle.reader.specs.Reading.{opening_fault, opening_numbers, opening_of, stands_at, fault_at, read_of, read_fault, place_from, place_after, ReadsAt, Opens, Reads}
+use Rattle.reader.specs.computed.Steps.{token_bytes}
 
 module _ (s : List ℕ) where
   pub too_short : length s < 7 → Err (refusal 2 0 0) ≡ opening_of s
@@ -31,13 +33,19 @@ module _ (s : List ℕ) where
   long_enough h = simp (le-ltb (length s) 7 h)
 
   -- the numbers of what opening answers are its fault's
-  pub opening_numbers_lem : opening_numbers (opening_of s) ≡ found_numbers (opening_fault s) 0 0
+  opening_numbers_lem : opening_numbers (opening_of s) ≡ found_numbers (opening_fault s) 0 0
   unfolding opening_of opening_fault
   opening_numbers_lem = go (ltb (length s) 7)
     where
       go : (short : Bool) → opening_numbers (outcome (cond short (refusal 2 0 0) no_refusal)) ≡ found_numbers (cond short (refusal 2 0 0) no_refusal) 0 0
       go true = refl
       go false = refl
+
+-- a reader that holds what was lent, at token 0, with the right answer
+pub opens : (lent : Bor (List ℕ)) (answer : Result ⊤ Refusal) → answer ≡ opening_of lent.now
+    → Opens lent (record { answer = answer; reader = record { program = lent; place = 0 } })
+opens lent answer e =
+    record { answer = e; numbers = ap opening_numbers e ∙ opening_numbers_lem lent.now; program = refl; place = refl }
 
 -- the numbers of an answer that names the reader's token
 stands_numbers : (n : ℕ) (s : List ℕ) → decoded_numbers (stands_at n (decode_of s)) ≡ found_numbers (fault_at n (decode_fault s)) 0 0
@@ -119,10 +127,12 @@ module _ (s : List ℕ) (n : ℕ) where
   unfolding place_after
   stays r e = ap (place_from n) e
 
-  -- the step after an answer
-  module _ (d : Result Token Refusal) (reads : ReadsAt s n d) where
-    pub steps_on : (t : Token) → d ≡ Ok t → Steps s n (record { answer = Ok t; place = n + 1 })
-    steps_on t e = record { reads = rw e at reads; place = sym (moves_on t (sym reads.answer ∙ e)) }
+  -- so what decode answers of them tells what a read does
+  pub reads_decoded : {bytes : List ℕ} {d e : Result Token Refusal} → bytes ≡ token_bytes s n → d ≡ decode_of bytes → d ≡ e → ReadsAt s n (stands_at n e)
+  reads_decoded b p q = rw (← q, p, b) reads_bytes
 
-    pub steps_nowhere : (r : Refusal) → d ≡ Err r → Steps s n (record { answer = Err r; place = n })
-    steps_nowhere r e = record { reads = rw e at reads; place = sym (stays r (sym reads.answer ∙ e)) }
+-- a reader is left where its answer says
+pub reads_on : (reader : TokenReader) {d : Result Token Refusal} {place : ℕ} → ReadsAt reader.program.now reader.place d → place ≡ place_from reader.place d
+    → Reads reader (record { answer = d; reader = record { program = reader.program; place = place } })
+unfolding place_after
+reads_on reader reads e = record { reads = reads; program = refl; place = e ∙ ap (place_from reader.place) reads.answer }

@@ -1,13 +1,11 @@
 -- A text that opens with a first line.
 -- Assumes nothing.
-use Prim.Native.Nat.{ℕ, ◌+◌, ◌-◌, ◌*◌, ◌≤◌}
+use Prim.Native.Nat.{ℕ, ◌+◌, ◌*◌, ◌≤◌}
 use mathlib.Core.List.{List, [], ◌∷◌, ◌++◌, append-nil}
-use mathlib.Core.Path.{◌≡◌, refl, ◌∙◌, sym, ap, subst}
+use mathlib.Core.Path.{◌≡◌, refl, ◌∙◌, ap, subst}
 use native.Mathlib.Omega.{arith}
 use types.Run.{OneOf, miss}
 use denote.Enum.Declared.{tag_of}
-use lib.ListN.{length, take, drop, length-drop}
-use lib.Seq.{take-length}
 use Rattle.listing.specs.First.{first_line}
 use Rattle.listing.specs.computed.Writers.{first_most}
 use Rattle.listing.specs.declared.first.FirstLine.{FirstLine}
@@ -16,16 +14,8 @@ use Rattle.listing.specs.declared.first.Heading.{Heading}
 use Rattle.listing.proofs.FirstMost.{first_most_lem}
 use Rattle.listing.specs.contracts.first.FirstLine.{the_type}
 use Rattle.layout.specs.Programs.{token_count}
-use Rattle.report.specs.computed.Writers.{all_lines, Listed, lines_after, HasLines, BeginsText, HasRoom, Puts, Measured}
+use Rattle.report.specs.computed.Writers.{all_lines, Listed, lines_after, HasLines, text_in, HasRoom, Puts, Measured}
 use Rattle.report.proofs.Room.{front, behind, in_turn, add_lengths}
-
--- the program's bytes, as the code cuts them out after the digit
-pub after_digit : (input : List ℕ) → take (length input - 1) (drop 1 input) ≡ drop 1 input
-after_digit input = ap (λ k. take k (drop 1 input)) (sym (length-drop 1 input)) ∙ take-length (drop 1 input)
-
--- so what is known of them is known of what is cut out
-pub cut : {text : List ℕ} {first : FirstLine} (input : List ℕ) → BeginsText text (drop 1 input) first → BeginsText text (take (length input - 1) (drop 1 input)) first
-cut {text} {first} input o = subst (λ b. BeginsText text b first) (sym (after_digit input)) o
 
 -- a first line that is not an accepted program's, by the code's numbers for the four kinds
 abbrev IsAlone : FirstLine → Type 0
@@ -38,42 +28,38 @@ none_after (Refused f) bytes k = refl
 none_after NoEdition bytes k = refl
 none_after InputTooLong bytes k = refl
 
-module _ {text bytes : List ℕ} {first : FirstLine} (o : BeginsText text bytes first) where
+module _ (first : FirstLine) (bytes : List ℕ) where
   -- it is no longer than the text may be
   pub first_short : first_most first ≤ 262178
   first_short = omega (arith, first_most_lem first)
 
   -- where there is room for the text, there is room for its first line
-  pub first_room : {size : ℕ} → HasRoom text 262178 0 size → HasRoom (first_line first) (first_most first) 0 size
-  first_room {size} r = front (first_line first) (lines_after first bytes) (first_most first) first_short (subst (λ t. HasRoom t 262178 0 size) o.whole r)
+  pub first_room : {size : ℕ} → HasRoom (text_in first bytes) 262178 0 size → HasRoom (first_line first) (first_most first) 0 size
+  first_room = front (first_line first) (lines_after first bytes) (first_most first) first_short
 
   -- a first line alone is the text
-  pub only : IsAlone first → text ≡ first_line first
-  only k = o.whole ∙ ap (λ l. first_line first ++ l) (none_after first bytes k) ∙ append-nil (first_line first)
+  pub only : IsAlone first → text_in first bytes ≡ first_line first
+  only k = ap (λ l. first_line first ++ l) (none_after first bytes k) ∙ append-nil (first_line first)
 
   -- the token lines of an accepted program follow
-  module _ {h : Heading} (e : first ≡ Accepted h) where
+  module _ {h : Heading} (e : first ≡ Accepted h) (lines : HasLines first bytes) where
     pub listed : Listed h.stage bytes
-    listed = subst (λ f. HasLines f bytes) e o.lines
+    listed = subst (λ f. HasLines f bytes) e lines
 
-    two_parts : text ≡ first_line first ++ all_lines h.stage bytes
-    two_parts = o.whole ∙ ap (λ f. first_line first ++ lines_after f bytes) e
+    two_parts : text_in first bytes ≡ first_line first ++ all_lines h.stage bytes
+    two_parts = ap (λ f. first_line first ++ lines_after f bytes) e
 
     most : first_most first + 128 * token_count bytes ≤ 262178
     most = omega (arith, listed.few, ap first_most e)
 
-    pub lines_room : {p size : ℕ} {l m : List ℕ} → HasRoom text 262178 0 size → Puts (first_line first) (first_most first) 0 l m p
+    pub lines_room : {p size : ℕ} {l m : List ℕ} → HasRoom (text_in first bytes) 262178 0 size → Puts (first_line first) (first_most first) 0 l m p
         → HasRoom (all_lines h.stage bytes) (128 * token_count bytes) p size
     lines_room {size = size} r a = behind (first_line first) _ most a (subst (λ t. HasRoom t 262178 0 size) two_parts r)
 
     pub both_put : {p r : ℕ} {l m n : List ℕ} → Puts (first_line first) (first_most first) 0 l m p → Puts (all_lines h.stage bytes) (128 * token_count bytes) p m n r
-        → Puts text 262178 0 l n r
+        → Puts (text_in first bytes) 262178 0 l n r
     both_put a b = rw two_parts (in_turn most a b)
 
     pub both_measured : {n m : ℕ} → Measured (first_line first) (first_most first) n → Measured (all_lines h.stage bytes) (128 * token_count bytes) m
-        → Measured text 262178 (n + m)
+        → Measured (text_in first bytes) 262178 (n + m)
     both_measured a b = rw two_parts (add_lengths most a b)
-
--- bytes that hold a program stand after a digit
-pub has_digit : {text : List ℕ} {first : FirstLine} {h : Heading} (input : List ℕ) → BeginsText text (drop 1 input) first → first ≡ Accepted h → 1 ≤ length input
-has_digit input o e = omega (arith, (listed o e).header, length-drop 1 input)

@@ -3,6 +3,5 @@ pub mod Examples
 pub mod FirstLine
 pub mod Lined
 pub mod Room
-pub mod TokensRead
 pub mod Turn
 pub mod Whole

@@ -1,12 +1,12 @@
 // The text that agallist prints, into a lent buffer.
-ghost use Rattle.std.specs.Prelude.{length, drop};
+ghost use Rattle.std.specs.Prelude.{length};
 ghost use Rattle.listing.specs.First.{first_line};
 ghost use Rattle.listing.specs.computed.Writers.{first_most};
-ghost use Rattle.report.specs.Text.{text_of};
 ghost use Rattle.report.specs.Report.{Reports};
-ghost use Rattle.report.specs.computed.Writers.{BeginsText, HasRoom, Measured, Fits, Puts};
+ghost use Rattle.report.specs.computed.Writers.{text_in, HasRoom, Measured, Fits, Puts};
 
-use crate::{opening, tokens};
+use crate::opening::Text;
+use crate::tokens;
 use bytecode::answers::Refusal;
 use listing::first::FirstLine;
 
@@ -14,33 +14,42 @@ use listing::first::FirstLine;
 pub fn report(input: &[u8], out: &mut [u8]) -> Result<usize, Refusal>
     ensures { Reports input.now out.old out.new result }
 {
-    let first = opening::first_of(input);
-    if !fits(out.len(), first, input) {
+    let text = Text::of(input);
+    if !text.fits(out.len()) {
         return Err(bytecode::refusal(23, 0, 0));
     }
-    Ok(put_text(out, first, input))
+    Ok(text.put(out))
 }
 
-// Whether so many bytes are room for the text. Its length is known once it is written, so it is measured first, but not where there is room
-// for any text: for a first line, and 2048 token lines.
-fn fits(room: usize, first: FirstLine, input: &[u8]) -> bool
-    requires { BeginsText (text_of input.now) (drop 1 input.now) first }
-    ensures { Fits (text_of input.now) room result }
-{
-    if 262178 <= room {
-        return true;
+impl<'a> Text<'a> {
+    // Whether so many bytes are room for the text. Its length is known once it is written, so it is measured first, but not where there is
+    // room for any text: for a first line, and 2048 token lines.
+    fn fits(self, room: usize) -> bool
+        ensures { Fits (text_in self.entry.first self.entry.bytes.now) room result }
+    {
+        room >= 262178 || self.length() <= room
     }
-    text_length(first, input) <= room
-}
 
-fn text_length(first: FirstLine, input: &[u8]) -> usize
-    requires { BeginsText (text_of input.now) (drop 1 input.now) first }
-    ensures { Measured (text_of input.now) 262178 result }
-{
-    let n = first_length(first);
-    match first {
-        FirstLine::Accepted(heading) => n + tokens::tokens_length(heading.stage, &input[1..]),
-        _ => n,
+    fn length(self) -> usize
+        ensures { Measured (text_in self.entry.first self.entry.bytes.now) 262178 result }
+    {
+        let n = first_length(self.first);
+        match self.first {
+            FirstLine::Accepted(heading) => n + tokens::tokens_length(heading.stage, self.bytes),
+            _ => n,
+        }
+    }
+
+    // The first line, and the token lines of a program that is accepted.
+    fn put(self, out: &mut [u8]) -> usize
+        requires { HasRoom (text_in self.first self.bytes.now) 262178 0 (length out.old) }
+        ensures { Puts (text_in self.entry.first self.entry.bytes.now) 262178 0 out.old out.new result }
+    {
+        let p = put_first(out, self.first);
+        match self.first {
+            FirstLine::Accepted(heading) => tokens::put_tokens(out, p, heading.stage, self.bytes),
+            _ => p,
+        }
     }
 }
 
@@ -51,25 +60,12 @@ fn first_length(first: FirstLine) -> usize
     put_first(&mut line, first)
 }
 
-// The first line, and the token lines of a program that is accepted.
-fn put_text(out: &mut [u8], first: FirstLine, input: &[u8]) -> usize
-    requires begins_text { BeginsText (text_of input.now) (drop 1 input.now) first }
-    requires has_room { HasRoom (text_of input.now) 262178 0 (length out.old) }
-    ensures { Puts (text_of input.now) 262178 0 out.old out.new result }
-{
-    let p = put_first(out, first);
-    match first {
-        FirstLine::Accepted(heading) => tokens::put_tokens(out, p, heading.stage, &input[1..]),
-        _ => p,
-    }
-}
-
 fn put_first(out: &mut [u8], first: FirstLine) -> usize
     requires { HasRoom (first_line first) (first_most first) 0 (length out.old) }
     ensures { Puts (first_line first) (first_most first) 0 out.old out.new result }
 {
     match listing::first_line(first, out) {
         Ok(n) => n,
-        Err(_) => 0,
+        Err(_) => unreachable!(),
     }
 }

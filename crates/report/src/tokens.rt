@@ -10,7 +10,7 @@ ghost use Rattle.report.specs.computed.Writers.{Listed, HasRoom, Puts, Measured,
 
 use layout::opcodes;
 use layout::opcodes::Flow;
-use layout::record::{Operand, Token};
+use layout::record::Token;
 
 // A line for each token, none of which has more than 128 bytes.
 pub(crate) fn put_tokens(out: &mut [u8], at: usize, stage: u8, bytes: &[u8]) -> usize
@@ -18,16 +18,9 @@ pub(crate) fn put_tokens(out: &mut [u8], at: usize, stage: u8, bytes: &[u8]) -> 
     requires has_room { HasRoom (all_lines stage bytes.now) (128 * token_count bytes.now) at (length out.old) }
     ensures { Puts (all_lines stage bytes.now) (128 * token_count bytes.now) at out.old out.new result }
 {
-    let count = (bytes.len() - 7) / 24;
     let mut place = at;
-    let mut opened = 0;
-    let mut token = 0;
-    while token < count {
-        let record = token_at(bytes, token);
-        let depth = shown_depth(record.opcode, opened);
-        place = put_line(out, place, record, stage, depth);
-        opened = opened_after(record.opcode, opened);
-        token += 1;
+    for line in Lines::of(stage, bytes) {
+        place = line.put(out, place);
     }
     place
 }
@@ -37,18 +30,103 @@ pub(crate) fn tokens_length(stage: u8, bytes: &[u8]) -> usize
     requires { Listed stage bytes.now }
     ensures { Measured (all_lines stage bytes.now) (128 * token_count bytes.now) result }
 {
-    let count = (bytes.len() - 7) / 24;
     let mut total = 0;
-    let mut opened = 0;
-    let mut token = 0;
-    while token < count {
-        let record = token_at(bytes, token);
-        let depth = shown_depth(record.opcode, opened);
-        total += line_length(record, stage, depth);
-        opened = opened_after(record.opcode, opened);
-        token += 1;
+    for line in Lines::of(stage, bytes) {
+        total += line.length();
     }
     total
+}
+
+// The lines of so many tokens from one on, which is the next, where so many branches are open before it.
+#[derive(Clone, Copy)]
+struct Lines<'a> {
+    stage: u8,
+    bytes: &'a [u8],
+    token: usize,
+    left: usize,
+    opened: u8,
+}
+
+impl<'a> Lines<'a> {
+    // Those of all tokens.
+    fn of(stage: u8, bytes: &'a [u8]) -> Lines<'a>
+        requires { Listed stage bytes.now }
+        ensures { result ≡ record { stage = stage; bytes = bytes.entry; token = 0; left = token_count bytes.now; opened = 0 } }
+    {
+        Lines {
+            stage,
+            bytes,
+            token: 0,
+            left: (bytes.len() - 7) / 24,
+            opened: 0,
+        }
+    }
+}
+
+impl<'a> Iterator for Lines<'a> {
+    ghost use Rattle.std.specs.Iterator.{at_most};
+    ghost use Rattle.report.specs.Lines.{Listable};
+    ghost use Rattle.report.specs.computed.Turn.{GivesLine};
+
+    type Item = Line;
+
+    ghost can_next = { λ lines. Listable lines.stage lines.bytes.now lines.token lines.left lines.opened };
+
+    ghost next_gives = { GivesLine };
+
+    ghost remaining = { λ lines. at_most lines.left };
+
+    // Compiled into the loops, so that a line does not go through memory.
+    #[inline(always)]
+    fn next(&mut self) -> Option<Line> {
+        if self.left == 0 {
+            return None;
+        }
+        let token = token_at(self.bytes, self.token);
+        let depth = shown_depth(token.opcode, self.opened);
+        let line = Line {
+            token,
+            stage: self.stage,
+            depth,
+        };
+        *self = Lines {
+            stage: self.stage,
+            bytes: self.bytes,
+            token: self.token + 1,
+            left: self.left - 1,
+            opened: opened_after(token.opcode, self.opened),
+        };
+        Some(line)
+    }
+}
+
+// A record, and the stage and the depth in which it has a line.
+#[derive(Clone, Copy)]
+struct Line {
+    token: Token,
+    stage: u8,
+    depth: u8,
+    ghost nameable: { is_nameable token stage depth ≡ true },
+}
+
+impl Line {
+    fn put(self, out: &mut [u8], at: usize) -> usize
+        requires { HasRoom (line_of self.token self.stage self.depth) 128 at (length out.old) }
+        ensures { Puts (line_of self.token self.stage self.depth) 128 at out.old out.new result }
+    {
+        match listing::line(self.token, self.stage, self.depth, &mut out[at..]) {
+            Ok(n) => at + n,
+            Err(_) => unreachable!(),
+        }
+    }
+
+    // How many bytes put writes.
+    fn length(self) -> usize
+        ensures { Measured (line_of self.token self.stage self.depth) 128 result }
+    {
+        let mut line = [0u8; 128];
+        self.put(&mut line, 0)
+    }
 }
 
 // The record of a token that decode does not refuse.
@@ -58,51 +136,17 @@ fn token_at(bytes: &[u8], token: usize) -> Token
 {
     match reader::read_at(bytes, token) {
         Ok(t) => t,
-        Err(_) => blank(),
+        Err(_) => unreachable!(),
     }
-}
-
-// What token_at has for a token that is refused, which none is.
-fn blank() -> Token {
-    Token {
-        opcode: 0,
-        destination: None,
-        source1: Operand::Unused,
-        source2: Operand::Unused,
-    }
-}
-
-// The line of a record that has one.
-fn put_line(out: &mut [u8], at: usize, token: Token, stage: u8, depth: u8) -> usize
-    requires depth_value { is_nameable token stage depth ≡ true }
-    requires has_room { HasRoom (line_of token stage depth) 128 at (length out.old) }
-    ensures { Puts (line_of token stage depth) 128 at out.old out.new result }
-{
-    match listing::line(token, stage, depth, &mut out[at..]) {
-        Ok(n) => at + n,
-        Err(_) => at,
-    }
-}
-
-// How many bytes put_line writes.
-fn line_length(token: Token, stage: u8, depth: u8) -> usize
-    requires { is_nameable token stage depth ≡ true }
-    ensures { Measured (line_of token stage depth) 128 result }
-{
-    let mut line = [0u8; 128];
-    put_line(&mut line, 0, token, stage, depth)
 }
 
 // Els and eif stand at the depth of their opener.
 fn shown_depth(opcode: u32, opened: u8) -> u8
     ensures { result ≡ shown_depth (flow_of opcode) opened }
 {
-    let flow = opcodes::flow_of(opcode);
-    match flow {
-        Flow::Plain => opened,
-        Flow::Opener => opened,
-        Flow::Els => less(opened),
-        Flow::Eif => less(opened),
+    match opcodes::flow_of(opcode) {
+        Flow::Plain | Flow::Opener => opened,
+        Flow::Els | Flow::Eif => opened.saturating_sub(1),
     }
 }
 
@@ -111,20 +155,9 @@ fn opened_after(opcode: u32, opened: u8) -> u8
     requires { opened ≤ 17 }
     ensures { result ≡ opened_after (flow_of opcode) opened }
 {
-    let flow = opcodes::flow_of(opcode);
-    match flow {
-        Flow::Plain => opened,
+    match opcodes::flow_of(opcode) {
+        Flow::Plain | Flow::Els => opened,
         Flow::Opener => opened + 1,
-        Flow::Els => opened,
-        Flow::Eif => less(opened),
+        Flow::Eif => opened.saturating_sub(1),
     }
-}
-
-fn less(opened: u8) -> u8
-    ensures { result ≡ opened - 1 }
-{
-    if opened == 0 {
-        return 0;
-    }
-    opened - 1
 }

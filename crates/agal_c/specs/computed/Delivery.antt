@@ -1,20 +1,13 @@
--- How the code delivers a token: the faults that it tells outright, its answer as one number, and the values that it takes from a source's
--- field.
+-- How the code delivers a token: its answer as one number, and the values that it takes from a source's field.
 use Rattle.std.specs.Prelude.{ℕ, ◌+◌, ◌*◌, ◌/◌, ◌%◌, cond, List, eqb, ltb, length, Err, Ok, Result}
-use Rattle.layout.specs.Opcodes.{shape_of}
 use Rattle.layout.specs.Records.{direct_of}
-use Rattle.bytecode.specs.Fields.{fields_of}
 use Rattle.bytecode.specs.Decode.{refusal}
-use Rattle.layout.specs.declared.record.Token.{Token}
 use Rattle.bytecode.specs.declared.answers.Refusal.{Refusal}
+use Rattle.layout.specs.declared.record.Token.{Token}
 use Rattle.agal_c.specs.Answers.{answered, refused}
 use Rattle.agal_c.specs.Values.{values}
 use Rattle.agal_c.specs.declared.answers.Answer.{Answer}
 use Rattle.agal_c.specs.declared.values.Values.{Values}
-
--- the faults that are told before any field but the opcode is looked into, 24 and then 9, which have no part; 0 where there is neither
-unfoldable pub outright_fault : List ℕ → ℕ
-outright_fault s = cond (eqb (length s) 24) (cond (shape_of (fields_of s).opcode).listed 0 9) 24
 
 -- an answer to a delivery as one number: 0, or the fault's number plus 256 times its part
 abbrev pub delivery_code : Result Token Refusal → List ℕ → ℕ
@@ -22,7 +15,7 @@ delivery_code (Ok t) buffer = cond (ltb (length buffer) 29) 23 0
 delivery_code (Err r) buffer = r.number + 256 * r.part
 
 -- the answer that such a number stands for, at a place and with the next one
-unfoldable pub code_answer : ℕ → ℕ → ℕ → Answer
+abbrev pub code_answer : ℕ → ℕ → ℕ → Answer
 code_answer code place next =
     cond (eqb code 0) (answered 0 next) (refused (refusal (code % 256) place (code / 256 % 256)) place)
 

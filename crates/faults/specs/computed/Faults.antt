@@ -1,4 +1,4 @@
--- The first fault of a token in the form that the code keeps: a refusal, with number 0 where there is none.
+-- The first fault of a token as a refusal, with number 0 where there is none: what the code answers is its outcome.
 use Rattle.std.specs.Prelude.{ℕ, cond, ltb, Result, Ok, Err, ⊤}
 use Rattle.std.proofs.Math.Option.{Option, none, some}
 use Rattle.bytecode.specs.Decode.{refusal, no_refusal}

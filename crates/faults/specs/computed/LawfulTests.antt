@@ -119,6 +119,16 @@ is_lawful_branch u f =
 
 -- ---- what the answer "yes" means: the token is lawful
 
--- in each edition and stage that these are of
+-- the same opcodes and registers, beside another profile
+abbrev pub usable_beside : Usable → Profile → Usable
+usable_beside u p =
+    record { profile = p; opcodes = u.opcodes; readable = u.readable; writable = u.writable; indexing = u.indexing }
+
+-- in each edition and stage that has these opcodes and registers
 unfoldable pub LawfulWith : Usable → Fields → Type 0
-LawfulWith usable f = (edition stage : ℕ) → usable ≡ usable_of (profile_of edition stage) → Lawful edition stage f
+LawfulWith u f =
+    (edition stage : ℕ) → usable_beside u (profile_of edition stage) ≡ usable_of (profile_of edition stage) → Lawful edition stage f
+
+-- in the edition and stage of the profile
+unfoldable pub LawfulUnder : Usable → Fields → Type 0
+LawfulUnder u f = (edition stage : ℕ) → u ≡ usable_of (profile_of edition stage) → Lawful edition stage f

@@ -31,10 +31,9 @@ HasLines (Refused f) bytes = Unit {0}
 HasLines NoEdition bytes = Unit {0}
 HasLines InputTooLong bytes = Unit {0}
 
--- A text opens with this first line, and the token lines of a program's bytes follow where that is accepted.
-pub record BeginsText (text bytes : List ℕ) (first : FirstLine) : Type 0 where
-  pub whole : text ≡ first_line first ++ lines_after first bytes
-  pub lines : HasLines first bytes
+-- a first line, and the token lines of a program's bytes where that is accepted
+abbrev pub text_in : FirstLine → List ℕ → List ℕ
+text_in first bytes = first_line first ++ lines_after first bytes
 
 -- In a buffer of so many bytes there is room from a place on: for as much as such a text can have, or for just this one.
 pub data HasRoom (text : List ℕ) (most at size : ℕ) : Type 0 where

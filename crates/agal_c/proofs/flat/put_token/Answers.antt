@@ -29,18 +29,18 @@ together opcode d v w buffer b₁ b₂ b₃ b₄ h p q r s =
     ∙ sets-eq (flat_bytes opcode d v w) buffer 0 h
 
 pub put_destination-requires-clause-field_value : goal.put_destination-requires-clause-field_value
-put_destination-requires-clause-field_value c = (clean_by _ _ c.requires.f_value).destination
+put_destination-requires-clause-field_value c = (clean_by _ _ c.requires.clean).destination
 
 pub put_operand-requires-clause-field_value : goal.put_operand-requires-clause-field_value
-put_operand-requires-clause-field_value c = (clean_by _ _ c.requires.f_value).source1
+put_operand-requires-clause-field_value c = (clean_by _ _ c.requires.clean).source1
 
 pub put_operand-requires-2-clause-field_value : goal.put_operand-requires-2-clause-field_value
-put_operand-requires-2-clause-field_value c = (clean_by _ _ c.requires.f_value).source2
+put_operand-requires-2-clause-field_value c = (clean_by _ _ c.requires.clean).source2
 
 pub returns : goal.returns
 unfolding flat_of token_of
 returns c =
-    let t = token_of c.args.shape c.args.f in
+    let t = token_of c.args.raw.shape c.args.raw.fields in
     together _ (destination_values t.destination) (operand_values t.source1) (operand_values t.source2) c.args.out.now _ _ _ _ c.requires.in_bounds
     (c.put_word.ensures ∙ word_stored _ 0 _ (omega (arith, c.requires.in_bounds)))
     c.put_destination.ensures

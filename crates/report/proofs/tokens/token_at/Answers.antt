@@ -1,13 +1,14 @@
 -- The goals of `token_at` that the check leaves.
-use Rattle.report.proofs.TokensRead.{record_is, token_read}
+use mathlib.Core.Path.{◌∙◌}
+use Rattle.reader.proofs.ReadsInOrder.{reads_token}
 use Rattle.report.proofs.tokens.token_at.Goals as goal
 
-pub returns-in-Ok : goal.returns-in-Ok
-returns-in-Ok c =
-    let a = c.args in
-    record_is a.bytes.now a.token c.requires _ c.read_at.ensures.answer _ c.in-Ok.is
+pub unreachable-requires : goal.unreachable-requires
+unreachable-requires c =
+    let e = c.read_at.ensures.answer ∙ reads_token c.args.bytes.now c.args.token _ c.requires in
+    cc
 
-pub returns-in-Err : goal.returns-in-Err
-returns-in-Err c =
-    let a = c.args in
-    absurd (token_read a.bytes.now a.token c.requires _ c.read_at.ensures.answer _ c.in-Err.is)
+pub returns : goal.returns
+returns c =
+    let e = c.read_at.ensures.answer ∙ reads_token c.args.bytes.now c.args.token _ c.requires in
+    cc

@@ -1,0 +1,4 @@
+use Rattle.listing.proofs.text.Writer.+long.Given as goal
+
+abbrev pub decreases-long : goal.decreases-long
+decreases-long l = l.n
