@@ -2,7 +2,7 @@
 -- Assumes nothing.
 use Rattle.std.specs.Prelude.{Err, Ok}
 use Prim.Native.Nat.{ℕ, ◌<◌, ◌≤◌}
-use mathlib.Core.Bool.{Bool, true, false, cond, ◌&&◌, and-true}
+use mathlib.Core.Bool.{Bool, true, false, cond}
 use mathlib.Core.List.{List, ◌++◌}
 use mathlib.Core.Path.{◌≡◌, refl}
 use native.Mathlib.Omega.{arith}
@@ -10,7 +10,7 @@ use lib.Dec.{ltb}
 use lib.ListN.{length, drop}
 use borrow.Author.Tests.{lt-ltb, le-ltb, ltb-false}
 use Rattle.bytecode.specs.Decode.{refusal, no_refusal, outcome}
-use Rattle.bytecode.specs.Encode.{source_fits, is_encodable, encoded_bytes, encode_fault, encode_of, after_encode, Encodes}
+use Rattle.bytecode.specs.Encode.{is_encodable, encoded_bytes, encode_fault, encode_of, after_encode, Encodes}
 use Rattle.layout.specs.declared.record.Token.{Token}
 
 module _ (t : Token) (buffer : List ℕ) where

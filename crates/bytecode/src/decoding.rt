@@ -9,6 +9,7 @@ use layout::bits;
 use layout::fields::RawToken;
 use layout::record::Token;
 
+// The record of a token's bytes. Err is the first fault: 24 where they are not 24 bytes, and then that of the fields.
 pub fn decode(bytes: &[u8]) -> Result<Token, Refusal>
     ensures { Decodes bytes.now result }
 {
@@ -22,7 +23,8 @@ pub fn decode(bytes: &[u8]) -> Result<Token, Refusal>
     Ok(raw.token())
 }
 
-// The first fault of a token's fields, 9, 12 or 13.
+// Looks for a fault in a token's fields. Err is the first: 9 where the opcode is not listed, then 12 where an unused field is not 0, then 13
+// where a used field has an undefined bit. 12 and 13 name the lowest part at fault.
 pub fn fault_of(raw: RawToken) -> Result<(), Refusal>
     ensures { result ≡ outcome (token_fault raw.shape raw.fields) }
 {
@@ -44,10 +46,13 @@ pub fn is_clean(raw: RawToken) -> bool
     ensures { result ≡ is_clean raw.shape raw.fields }
 {
     let RawToken { shape, fields } = raw;
+    let destination = bits::destination_bits(shape.destination);
+    let source1 = bits::operand_bits(shape.source1);
+    let source2 = bits::operand_bits(shape.source2);
     shape.listed
-        && !(bits::is_stray(bits::destination_bits(shape.destination), fields.destination)
-            | bits::is_stray(bits::operand_bits(shape.source1), fields.source1)
-            | bits::is_stray(bits::operand_bits(shape.source2), fields.source2))
+        && !(bits::is_stray(destination, fields.destination)
+            | bits::is_stray(source1, fields.source1)
+            | bits::is_stray(source2, fields.source2))
 }
 
 // A field with no defined bits is unused, and must be 0.
@@ -69,13 +74,13 @@ fn lowest_part<F: Fn(u64, u64) -> bool>(raw: RawToken, is_at_fault: F) -> Option
     ensures { LowestPart (F.post is_at_fault) raw.shape raw.fields result }
 {
     let RawToken { shape, fields } = raw;
+    let destination = bits::destination_bits(shape.destination);
+    let source1 = bits::operand_bits(shape.source1);
+    let source2 = bits::operand_bits(shape.source2);
     lowest(
-        is_at_fault(
-            bits::destination_bits(shape.destination),
-            fields.destination,
-        ),
-        is_at_fault(bits::operand_bits(shape.source1), fields.source1),
-        is_at_fault(bits::operand_bits(shape.source2), fields.source2),
+        is_at_fault(destination, fields.destination),
+        is_at_fault(source1, fields.source1),
+        is_at_fault(source2, fields.source2),
     )
 }
 

@@ -5,6 +5,7 @@ use crate::answers::Refusal;
 use crate::{fields, fits, pack, refusals};
 use layout::record::Token;
 
+// Err is 25 where the record isn't encodable, else 23 where the buffer is shorter than 24 bytes.
 pub fn encode(token: Token, out: &mut [u8]) -> Result<(), Refusal>
     ensures { Encodes token out.old out.new result }
 {

@@ -1,5 +1,5 @@
 // The four fields of a token as numbers, read from its bytes and written to them.
-ghost use Rattle.std.specs.Prelude.{◌≡◌, ◌+◌, ◌*◌, ◌≤◌, ◌<◌, ◌^◌, ◌++◌, length, drop};
+ghost use Rattle.std.specs.Prelude.{◌≡◌, ◌+◌, ◌≤◌, ◌++◌, length, drop};
 ghost use Rattle.layout.specs.Layout.{word_at, long_at};
 ghost use Rattle.bytecode.specs.Fields.{fields_of, bytes_of};
 ghost use Rattle.bytecode.specs.computed.CleanFields.{fields_in};
@@ -7,35 +7,35 @@ ghost use Rattle.bytecode.specs.computed.CleanFields.{fields_in};
 use crate::stores;
 use layout::fields::Fields;
 
+// The fields of bytes that are no token: all 0.
+const NO_FIELDS: Fields = Fields {
+    opcode: 0,
+    destination: 0,
+    source1: 0,
+    source2: 0,
+};
+
 // The fields of a token, from its bytes; all 0 where there are fewer than 24.
 #[tactic(auto, unfolding(crate::specs::computed::CleanFields::fields_in))]
 pub fn fields_of(bytes: &[u8]) -> Fields
     ensures { result ≡ fields_in bytes.now }
 {
     if bytes.len() < 24 {
-        return Fields {
-            opcode: 0,
-            destination: 0,
-            source1: 0,
-            source2: 0,
-        };
+        NO_FIELDS
+    } else {
+        read_fields(bytes)
     }
-    read_fields(bytes)
 }
 
 pub(crate) fn read_fields(bytes: &[u8]) -> Fields
     requires { 24 ≤ length bytes.now }
     ensures { result ≡ fields_of bytes.now }
 {
-    let opcode = word_at(bytes, 0) as u32;
-    let destination = word_at(bytes, 4);
-    let source1 = long_at(bytes, 8);
-    let source2 = long_at(bytes, 16);
     Fields {
-        opcode,
-        destination,
-        source1,
-        source2,
+        opcode: word_at(bytes, 0),
+        destination: u64::from(word_at(bytes, 4)),
+        source1: long_at(bytes, 8),
+        source2: long_at(bytes, 16),
     }
 }
 
@@ -43,14 +43,14 @@ fn long_at(bytes: &[u8], at: usize) -> u64
     requires { at + 8 ≤ length bytes.now }
     ensures { result ≡ long_at bytes.now at }
 {
-    word_at(bytes, at) + 0x1_0000_0000 * word_at(bytes, at + 4)
+    u64::from(word_at(bytes, at)) + (u64::from(word_at(bytes, at + 4)) << 32)
 }
 
-fn word_at(bytes: &[u8], at: usize) -> u64
+fn word_at(bytes: &[u8], at: usize) -> u32
     requires { at + 4 ≤ length bytes.now }
-    ensures { (result ≡ word_at bytes.now at) × (result < 2 ^ 32) }
+    ensures { result ≡ word_at bytes.now at }
 {
-    layout::word(bytes[at], bytes[at + 1], bytes[at + 2], bytes[at + 3]) as u64
+    layout::word(bytes[at], bytes[at + 1], bytes[at + 2], bytes[at + 3])
 }
 
 // Writes the fields to the first 24 bytes.
@@ -58,14 +58,10 @@ pub(crate) fn write_fields(f: Fields, out: &mut [u8])
     requires { 24 ≤ length out.old }
     ensures { out.new ≡ bytes_of f ++ drop 24 out.old }
 {
-    let opcode = f.opcode as u64;
-    let destination = f.destination;
-    let source1 = f.source1;
-    let source2 = f.source2;
-    stores::put_word(out, 0, opcode);
-    stores::put_word(out, 4, destination);
-    stores::put_word(out, 8, source1);
-    stores::put_word(out, 12, source1 / 0x1_0000_0000);
-    stores::put_word(out, 16, source2);
-    stores::put_word(out, 20, source2 / 0x1_0000_0000);
+    stores::put_word(out, 0, u64::from(f.opcode));
+    stores::put_word(out, 4, f.destination);
+    stores::put_word(out, 8, f.source1);
+    stores::put_word(out, 12, f.source1 >> 32);
+    stores::put_word(out, 16, f.source2);
+    stores::put_word(out, 20, f.source2 >> 32);
 }

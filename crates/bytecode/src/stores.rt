@@ -4,17 +4,15 @@ ghost use Rattle.bytecode.specs.computed.Stored.{after_word};
 
 // Writes the low four bytes of a number from a place on, the lowest first; nothing where they don't all fit. The compiler makes one store
 // of the four, since all are bytes of one number.
+#[tactic(auto, unfolding(crate::specs::computed::Stored::after_word))]
 pub fn put_word(out: &mut [u8], at: usize, word: u64)
     ensures { out.new ≡ after_word out.old at word }
 {
-    if out.len() < 4 {
-        return;
+    if at <= out.len() {
+        let (_, rest) = out.split_at_mut(at);
+        if let Some(place) = rest.first_chunk_mut() {
+            let [a, b, c, d, ..] = word.to_le_bytes();
+            *place = [a, b, c, d];
+        }
     }
-    if out.len() - 4 < at {
-        return;
-    }
-    out[at] = (word % 256) as u8;
-    out[at + 1] = (word / 256 % 256) as u8;
-    out[at + 2] = (word / 65536 % 256) as u8;
-    out[at + 3] = (word / 16777216 % 256) as u8;
 }

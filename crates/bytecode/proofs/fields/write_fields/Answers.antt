@@ -34,7 +34,7 @@ together f buffer b₁ b₂ b₃ b₄ b₅ b₆ h p₁ p₂ p₃ p₄ p₅ p₆ 
 pub returns : goal.returns
 returns c =
     together c.args.f c.args.out.now _ _ _ _ _ _ c.requires
-    c.put_word.ensures
+    (rw c.from.ensures at c.put_word.ensures)
     c.put_word-2.ensures
     c.put_word-3.ensures
     c.put_word-4.ensures

@@ -1,19 +1,12 @@
 -- The goals of `put_word` that the check leaves.
-use mathlib.Core.Path.{sym}
+use mathlib.Core.Path.{refl}
 use native.Mathlib.Omega.{arith}
-use Rattle.bytecode.proofs.Stored.{word_stored, word_without_room}
+use Rattle.bytecode.proofs.Stored.{word_put}
 use Rattle.bytecode.proofs.stores.put_word.Goals as goal
 
 -- `put_word` meets its contract.
 -- Assumes nothing.
-pub returns-then-out-lt4 : goal.returns-then-out-lt4
-returns-then-out-lt4 c =
-    sym (word_without_room c.args.out.now c.args.at c.args.word (omega (arith, c.if-out-lt4.true)))
-
-pub returns-then-out-at : goal.returns-then-out-at
-returns-then-out-at c =
-    sym (word_without_room c.args.out.now c.args.at c.args.word (omega (arith, c.if-out-at.true, c.if-out-lt4.false)))
-
-pub returns : goal.returns
-returns c =
-    sym (word_stored c.args.out.now c.args.at c.args.word (omega (arith, c.if-out-at.false, c.if-out-lt4.false)))
+pub returns-in-Some : goal.returns-in-Some
+returns-in-Some c =
+    word_put _ _ _ _ _ _ (omega (arith, c.split_at_mut-rest.ensures.back_len, c.in-Some.ensures.variant.0 refl))
+    c.split_at_mut-rest.ensures.front c.split_at_mut-rest.ensures.back c.to_le_bytes.ensures
