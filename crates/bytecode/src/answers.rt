@@ -7,6 +7,7 @@ use std::fmt;
 
 // A refusal by the numbers of the format's rules: the fault, the token it stands at, and the part of the token (0 opcode, 1 destination,
 // 2 source 1, 3 source 2). What no rule names is 0.
+// They are the format's numbers and no enum of ours: `Numbers` states them, C reads them, and `refusal` makes one of any three.
 #[derive(Clone, Copy, Debug, PartialEq, Eq)]
 pub struct Refusal {
     pub number: u8,

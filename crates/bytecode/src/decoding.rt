@@ -55,7 +55,7 @@ pub fn is_clean(raw: RawToken) -> bool
             | bits::is_stray(source2, fields.source2))
 }
 
-// A field with no defined bits is unused, and must be 0.
+// The tests of 12 and of 13, each by its definition. A field with no defined bits is unused, and must be 0.
 fn unused_not_zero(defined: u64, field: u64) -> bool
     ensures { result ≡ unused_not_zero defined field }
 {

@@ -17,5 +17,5 @@ pub use encoding::encode;
 pub use fields::fields_of;
 pub use fits::encodable;
 pub use pack::unsigned_byte;
-pub use refusals::{NO_REFUSAL, refusal};
+pub use refusals::refusal;
 pub use stores::put_word;

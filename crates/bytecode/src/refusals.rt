@@ -4,13 +4,6 @@ ghost use Rattle.bytecode.specs.Decode.{refusal as refused};
 
 use crate::answers::Refusal;
 
-// Nothing is refused.
-pub const NO_REFUSAL: Refusal = Refusal {
-    number: 0,
-    token: 0,
-    part: 0,
-};
-
 // The refusal with these numbers. That of nothing has all three 0.
 pub fn refusal(number: u8, token: usize, part: u8) -> Refusal
     ensures { result ≡ refused number token part }
