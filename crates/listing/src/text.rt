@@ -70,7 +70,8 @@ impl<'a> Writer<'a> {
 }
 
 // Not inlined: beside such an array the loop is compiled to a call of memcpy, since the array and the buffer cannot overlap, and in the first
-// call the loader takes 3 KB of stack to find memcpy. The buffer and the place are passed by value, so that a writer stays in registers.
+// call the loader takes 3 KB of stack to find memcpy. The buffer and the place are passed by value, so that a writer stays in registers: with a
+// method that is not inlined the listing of a token takes an eighth more instructions.
 #[inline(never)]
 fn put_bytes(out: &mut [u8], at: usize, bytes: &[u8]) -> usize
     requires { at + length bytes.now ≤ length out.old }
