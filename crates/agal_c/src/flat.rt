@@ -40,9 +40,10 @@ pub(crate) fn deliver(token: &[u8], flat: &mut [u8]) -> u32
 {
     let raw = RawToken::of(bytecode::fields_of(token));
     if !bytecode::is_clean(raw) {
-        if let Err(fault) = bytecode::fault_of(raw) {
-            return fault.number as u32 + 256 * fault.part as u32;
-        }
+        let Err(fault) = bytecode::fault_of(raw) else {
+            unreachable!();
+        };
+        return fault.number as u32 + 256 * fault.part as u32;
     }
     if flat.len() < 29 {
         return 23;

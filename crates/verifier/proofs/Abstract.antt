@@ -1,11 +1,11 @@
 -- The state that the code keeps stands for the state of the check over paths.
 -- Assumes nothing.
 use Prim.Native.Nat.{ℕ, zero, suc, ◌≤◌, ◌<◌}
-use mathlib.Core.Bool.{true, false, not}
+use mathlib.Core.Bool.{true, false}
 use mathlib.Core.List.{List, [], ◌∷◌}
 use mathlib.Core.Path.{◌≡◌, refl, ap, ap₂}
 use native.Mathlib.Omega.{arith}
-use lib.Dec.{eqb, ltb}
+use lib.Dec.{ltb}
 use lib.ListN.{length}
 use borrow.Author.Tests.{lt-ltb, le-ltb}
 use Rattle.layout.specs.declared.opcodes.Flow as code
@@ -24,7 +24,7 @@ use Rattle.verifier.specs.declared.state.State.{State}
 -- ---- what each part stands for
 
 abbrev pub branch_of : Branch → nesting.Branch
-branch_of b = record { opened_at = b.opener; els_met = not (eqb b.els_met 0) }
+branch_of b = record { opened_at = b.opener; els_met = b.els_met }
 
 abbrev pub kept_of : Branch → ComponentSet
 kept_of b = component_set b.kept
@@ -61,15 +61,13 @@ kept_in st = open_in kept_of st.innermost (branch_at st) st.depth
 abbrev pub abstract_of : State → check.State
 abstract_of st = record { open_branches = branches_in st; current = component_set st.current; kept = kept_in st }
 
--- the arrays have room for 16 branches, and no more are open
+-- the array has room for 16 branches, and no more are open
 pub record Valid (st : State) : Type 0 where
   pub depth : st.depth ≤ 16
-  pub kept : length st.kept ≡ 16
-  pub openers : length st.openers ≡ 16
-  pub els_met : length st.els_met ≡ 16
+  pub around : length st.around ≡ 16
 
 pub valid_start : Valid start_state
-valid_start = record { depth = omega arith; kept = refl; openers = refl; els_met = refl }
+valid_start = record { depth = omega arith; around = refl }
 
 -- ---- 20
 

@@ -82,7 +82,7 @@ module _ (bytes : List ℕ) where
 
   refusal_numbered : (o : Option TokenFault) (a : Answer) → HeaderNumbered o → LaterNumbered a → (f : Refusal)
       → after_header o (answer_of bytes a) ≡ Err f → IsFault f.number
-  refusal_numbered none accepted h l f e = let z : ◌≡◌ {A = ℕ} 0 1 = cc in absurd (omega arith)
+  refusal_numbered none accepted h l f e = cc
   refusal_numbered none (refused number n part) h l f e =
       let q : refusal number n part ≡ f = cc in
       subst (λ x. IsFault x.number) q l

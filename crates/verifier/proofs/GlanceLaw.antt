@@ -1,11 +1,12 @@
 -- What is known at a glance of a token is what its step does.
 -- Assumes nothing.
 use Prim.Native.Nat.{ℕ, ◌+◌, ◌-◌, ◌≤◌}
-use mathlib.Core.Bool.{Bool, true, false, not, false≢true}
+use mathlib.Core.Bool.{Bool, true, false, not}
 use mathlib.Core.List.{List}
-use mathlib.Core.Path.{◌≡◌, refl, ◌∙◌, sym, ap, ap₂, subst}
+use mathlib.Core.Path.{◌≡◌, refl, ◌∙◌, sym, ap, ap₂}
 use native.Mathlib.Omega.{arith}
-use borrow.Author.Tests.{eq-eqb, not-true}
+use Rattle.std.specs.Prelude.{None, IfSome}
+use Rattle.std.specs.Bool.{then_some}
 use Rattle.bytecode.specs.Decode.{no_refusal}
 use Rattle.bytecode.specs.computed.CleanFields.{is_clean}
 use Rattle.bytecode.specs.Fields.{fields_of}
@@ -26,28 +27,16 @@ use Rattle.faults.specs.computed.Faults.{own_fault}
 use Rattle.faults.specs.computed.LawfulTests.{usable_of, is_lawful_kil, is_lawful_branch}
 use Rattle.faults.specs.computed.Profile.{profile_of}
 use Rattle.faults.specs.declared.lawful.Usable.{Usable}
-use Rattle.faults.specs.declared.profile.Profile.{Profile}
 use Rattle.faults.proofs.LawfulBranch.{LawfulBranch, lawful_branch}
 use Rattle.faults.proofs.LawfulKil.{lawful_kil}
 use Rattle.faults.proofs.LawfulToken.{ToldLawful, LawfulToken}
-use Rattle.verifier.specs.computed.Glance.{passed_unless, Whenever, Passes, opens_unwritten, known_unless, branch_step, KnownBranch}
-use Rattle.verifier.specs.computed.State.{is_out_of_place, is_misplaced, met_state, parted_state, with_current, written_by, wrote_state}
+use Rattle.verifier.specs.computed.Glance.{passed_unless, Whenever, Passes, opens_unwritten, branch_step, KnownBranch}
+use Rattle.verifier.specs.computed.State.{is_misplaced, met_state, parted_state, with_current, written_by, wrote_state}
 use Rattle.verifier.specs.computed.Step.{fault_of_fields, follow_of, step_of}
 use Rattle.verifier.specs.computed.Steps.{steps_over}
-use Rattle.verifier.specs.declared.glance.Passed.{Passed}
-use Rattle.verifier.specs.declared.state.Branch.{Branch}
 use Rattle.verifier.specs.declared.state.State.{State}
 use Rattle.verifier.proofs.StepLaw.{by_tests, follow_tests}
 use Rattle.verifier.proofs.StepsLaw.{one_more}
-
-not_plain : Opener ≡ Plain → ⊥
-not_plain e = let z : ◌≡◌ {A = ℕ} 0 1 = cc in omega arith
-
-not_els : Opener ≡ Els → ⊥
-not_els e = let z : ◌≡◌ {A = ℕ} 0 1 = cc in omega arith
-
-not_eif : Opener ≡ Eif → ⊥
-not_eif e = let z : ◌≡◌ {A = ℕ} 0 1 = cc in omega arith
 
 -- what a token reads that reads nothing unwritten, as the code asks for it
 right1 : (w : Written) (f : Fields) → ReadsWritten w f → lacks_access w (access1_of (token_of (shape_of f.opcode) f)) ≡ false
@@ -56,12 +45,12 @@ right1 w f reads = sym (lacks_reads1 w (token_of (shape_of f.opcode) f)) ∙ rea
 right2 : (w : Written) (f : Fields) → ReadsWritten w f → lacks_access w (access2_of (token_of (shape_of f.opcode) f)) ≡ false
 right2 w f reads = sym (lacks_reads2 w (token_of (shape_of f.opcode) f)) ∙ reads.1
 
-module _ (st : State) (sound : st.fault.number ≡ 0) (token : ℕ) where
+module _ (st : State) (sound : st.fault ≡ None) (token : ℕ) where
   -- a token that decode takes and that has none of faults 10 to 19
   taken : (edition stage : ℕ) (f : Fields) → is_clean (shape_of f.opcode) f ≡ true → own_fault (profile_of edition stage) token (token_of (shape_of f.opcode) f) ≡ no_refusal
       → step_of st (profile_of edition stage) token f ≡ follow_of st token (token_of (shape_of f.opcode) f)
   unfolding fault_of_fields step_of
-  taken edition stage f e q = rw (eq-eqb st.fault.number 0 sound, e, q)
+  taken edition stage f e q = rw (sound, e, q)
 
   -- a token that is in its place and reads nothing unwritten
   follow_right : (t : Token) (flow : Flow) → flow_of t.opcode ≡ flow → is_misplaced st flow ≡ false
@@ -96,46 +85,41 @@ module _ (st : State) (sound : st.fault.number ≡ 0) (token : ℕ) where
 
       reads : (flow : Flow) → flow_of f.opcode ≡ flow → opens_unwritten flow st.current f ≡ false
           → (lacks_access (met_state st flow).current (access1_of (token_of (shape_of f.opcode) f)) ≡ false) × (lacks_access (met_state st flow).current (access2_of (token_of (shape_of f.opcode) f)) ≡ false)
-      reads Plain e l = written st.current (λ o. absurd (not_plain (sym o ∙ e)))
+      reads Plain e l = written st.current (λ o. cc)
       reads Opener e l = written st.current (λ o. l)
-      reads Els e l = written (met_state st Els).current (λ o. absurd (not_els (sym o ∙ e)))
-      reads Eif e l = written (met_state st Eif).current (λ o. absurd (not_eif (sym o ∙ e)))
-
--- what the code answers of a lawful token
-passed : (edition stage : ℕ) (unwritten : Written → Fields → Bool) (f : Fields) → LawfulToken edition stage unwritten f
-    → (current : Written) (b : Bool) → b ≡ unwritten current f → (r : Passed) → r ≡ passed_unless b current f → r.known ≡ true
-    → (st : State) → st.fault.number ≡ 0 → st.current ≡ current → (token : ℕ) → step_of st (profile_of edition stage) token f ≡ with_current st r.current
-passed edition stage unwritten f p current true u r e k st sound at token = absurd (false≢true (sym (ap (λ r. r.known) e) ∙ k))
-passed edition stage unwritten f p current false u r e k st sound at token =
-    passes st sound token edition stage true (λ w. unwritten w f ≡ false) f p (ap (λ w. unwritten w f) at ∙ sym u)
-    ∙ ap (λ w. with_current st w) (ap (λ w. written_by w (register_of f.destination)) at ∙ sym (ap (λ r. r.current) e))
+      reads Els e l = written (met_state st Els).current (λ o. cc)
+      reads Eif e l = written (met_state st Eif).current (λ o. cc)
 
 -- By a test that tells lawful tokens, with the test that goes with it of what they read: `told` and `asked` are what the code was answered.
-module _ (f : Fields) (test : Profile → Usable → Bool) (unwritten : Written → Fields → Bool)
-    (law : (edition stage : ℕ) → test (profile_of edition stage) (usable_of (profile_of edition stage)) ≡ true → LawfulToken edition stage unwritten f) where
-  pub passes_by : (profile : Profile) (usable : Usable) (told : Bool) → told ≡ test profile usable → told ≡ true
-      → (current : Written) (asked : Bool) → asked ≡ unwritten current f → (r : Passed) → r ≡ passed_unless asked current f → r.known ≡ true → Passes profile usable current f r.current
-  passes_by profile usable told tells holds current asked asks r made known edition stage of used st sound at token =
-      passed edition stage unwritten f
-      (law edition stage (ap₂ test (sym of) (sym (used ∙ ap usable_of of)) ∙ sym tells ∙ holds))
-      current asked asks r made known st sound at token
+module _ (f : Fields) (test : Usable → Bool) (unwritten : Written → Fields → Bool)
+    (law : (edition stage : ℕ) → test (usable_of (profile_of edition stage)) ≡ true → LawfulToken edition stage unwritten f) where
+  pub passes_by : (usable : Usable) (told : Bool) → told ≡ test usable → told ≡ true
+      → (current : Written) (asked : Bool) → asked ≡ unwritten current f → IfSome (passed_unless asked current f) (Passes usable current f)
+  passes_by usable told tells holds current true asks = tt
+  passes_by usable told tells holds current false asks =
+      λ edition stage used st sound at token.
+      let lawful = law edition stage (ap test (sym used) ∙ sym tells ∙ holds) in
+      passes st sound token edition stage true (λ w. unwritten w f ≡ false) f lawful (ap (λ w. unwritten w f) at ∙ sym asks)
+      ∙ ap (λ w. with_current st (written_by w (register_of f.destination))) at
 
 -- kil writes nothing, and leaves the set at hand
-pub passes_kil : (profile : Profile) (usable : Usable) (f : Fields) (told : Bool) → told ≡ is_lawful_kil profile usable f → told ≡ true
-    → (current : Written) (asked : Bool) → asked ≡ kil_may_read_unwritten current f → not asked ≡ true → Passes profile usable current f current
-passes_kil profile usable f told tells holds current asked asks known edition stage of used st sound at token =
+pub passes_kil : (usable : Usable) (f : Fields) (told : Bool) → told ≡ is_lawful_kil usable f → told ≡ true
+    → (current : Written) (asked : Bool) → asked ≡ kil_may_read_unwritten current f → IfSome (then_some (not asked) current) (Passes usable current f)
+passes_kil usable f told tells holds current true asks = tt
+passes_kil usable f told tells holds current false asks =
+    λ edition stage used st sound at token.
     passes st sound token edition stage false (λ w. kil_may_read_unwritten w f ≡ false) f
-    (lawful_kil edition stage f (ap₂ (λ p u. is_lawful_kil p u f) (sym of) (sym (used ∙ ap usable_of of)) ∙ sym tells ∙ holds))
-    (ap (λ w. kil_may_read_unwritten w f) at ∙ sym asks ∙ not-true asked known)
+    (lawful_kil edition stage f (ap (λ u. is_lawful_kil u f) (sym used) ∙ sym tells ∙ holds))
+    (ap (λ w. kil_may_read_unwritten w f) at ∙ sym asks)
     ∙ ap (with_current st) at
 
 -- a branch that is lawful, in its place and reads nothing unwritten
-branch_known : (profile : Profile) (usable : Usable) (depth : ℕ) (innermost : Branch) (current : Written) (f : Fields) (flow : Flow)
-    → is_lawful_branch profile usable f ≡ true → flow ≡ flow_of f.opcode → is_out_of_place flow depth innermost.els_met ≡ false → opens_unwritten flow current f ≡ false
-    → KnownBranch profile usable depth innermost current f flow
-branch_known profile usable depth innermost current f flow lawful is m l edition stage of used st sound at deep inner token =
-    let p = lawful_branch edition stage f (ap₂ (λ p u. is_lawful_branch p u f) (sym of) (sym (used ∙ ap usable_of of)) ∙ lawful) in
-    by_flow flow (goes_by st sound token edition stage f p flow (sym is) (ap₂ (λ d b. is_out_of_place flow d b.els_met) deep inner ∙ m) (ap (λ w. opens_unwritten flow w f) at ∙ l))
+pub branch_known : (usable : Usable) (st : State) (f : Fields) (flow : Flow)
+    → is_lawful_branch usable f ≡ true → flow ≡ flow_of f.opcode → is_misplaced st flow ≡ false → opens_unwritten flow st.current f ≡ false
+    → KnownBranch usable st f flow
+branch_known usable st f flow lawful is m l edition stage used sound token =
+    let p = lawful_branch edition stage f (ap (λ u. is_lawful_branch u f) (sym used) ∙ lawful) in
+    by_flow flow (goes_by st sound token edition stage f p flow (sym is) m l)
   where
     by_flow : (flow : Flow) {next : State} → next ≡ parted_state (met_state st flow) flow token → branch_step flow st token next
     by_flow Plain e = tt
@@ -143,34 +127,23 @@ branch_known profile usable depth innermost current f flow lawful is m l edition
     by_flow Els e = e
     by_flow Eif e = e
 
--- what the code answers of a branch: its flow, unless it may have a fault
-pub branch_unless : (profile : Profile) (usable : Usable) (depth : ℕ) (innermost : Branch) (current : Written) (f : Fields) (flow : Flow)
-    → is_lawful_branch profile usable f ≡ true → flow ≡ flow_of f.opcode
-    → (fault : Bool) → (fault ≡ false → (is_out_of_place flow depth innermost.els_met ≡ false) × (opens_unwritten flow current f ≡ false))
-    → (r : Flow) → r ≡ known_unless fault flow → KnownBranch profile usable depth innermost current f r
-branch_unless profile usable depth innermost current f flow lawful is true right r e =
-    subst (KnownBranch profile usable depth innermost current f) (sym e) (λ edition stage of used st sound at deep inner token. tt)
-branch_unless profile usable depth innermost current f flow lawful is false right r e =
-    subst (KnownBranch profile usable depth innermost current f) (sym e)
-    (branch_known profile usable depth innermost current f flow lawful is (right refl).0 (right refl).1)
-
 -- ---- a run of tokens
 
-module _ (profile : Profile) (usable : Usable) (bytes : List ℕ) (first : ℕ) (from : Written) where
+module _ (usable : Usable) (bytes : List ℕ) (first : ℕ) (from : Written) where
   -- the steps from the first token of a run up to token n leave this set
   abbrev Reaches : ℕ → Written → Type 0
-  Reaches n current = Whenever profile usable from (λ p st. steps_over p bytes st first (n - first) ≡ with_current st current)
+  Reaches n current = Whenever usable from (λ p st. steps_over p bytes st first (n - first) ≡ with_current st current)
 
   pub run_none : Reaches first from
   unfolding steps_over
-  run_none edition stage of used st sound at =
+  run_none edition stage used st sound at =
       let none : first - first ≡ 0 = omega arith in
       ap (steps_over (profile_of edition stage) bytes st first) none ∙ ap (with_current st) at
 
   pub run_more : (n : ℕ) → first ≤ n → (current : Written) → Reaches n current
-      → (f : Fields) → f ≡ fields_of (token_at bytes n) → (next : Written) → Passes profile usable current f next → Reaches (n + 1) next
-  run_more n h current reached f read next passing edition stage of used st sound at =
+      → (f : Fields) → f ≡ fields_of (token_at bytes n) → (next : Written) → Passes usable current f next → Reaches (n + 1) next
+  run_more n h current reached f read next passing edition stage used st sound at =
       let p = profile_of edition stage in
       one_more p bytes st first n h
-      ∙ ap₂ (λ s g. step_of s p n g) (reached edition stage of used st sound at) (sym read)
-      ∙ passing edition stage of used (with_current st current) sound refl n
+      ∙ ap₂ (λ s g. step_of s p n g) (reached edition stage used st sound at) (sym read)
+      ∙ passing edition stage used (with_current st current) sound refl n

@@ -1,16 +1,18 @@
 -- The faults of the header: their numbers, and what follows where there is one and where there is none.
 -- Assumes nothing.
-use Rattle.std.specs.Prelude.{Err, Result}
+use Rattle.std.specs.Prelude.{Ok, Err, Result, ⊤}
 use Prim.Native.Nat.{ℕ, ◌≤◌, ◌<◌}
 use mathlib.Core.Bool.{Bool, true, false, cond}
 use mathlib.Core.List.{List, [], ◌∷◌}
 use mathlib.Core.Option.{Option, none, some, none-ne-some}
-use mathlib.Core.Path.{◌≡◌, refl, sym}
+use mathlib.Core.Path.{◌≡◌, refl, sym, ap}
 use native.Mathlib.Omega.{arith}
 use native.Mathlib.Decide.{dec_lt}
 use lib.Dec.{eqb, lit≤}
 use lib.ListN.{length}
 use borrow.Author.Tests.{lt-ltb, ltb-false}
+use Rattle.bytecode.specs.Decode.{outcome}
+use Rattle.bytecode.proofs.DecodeLaws.{told, not_told}
 use Rattle.layout.specs.Programs.{token_count}
 use Rattle.paths.specs.Paths.{TokenFault}
 use Rattle.paths.specs.computed.Check.{verdict_of}
@@ -53,21 +55,21 @@ module _ (edition : ℕ) (bytes : List ℕ) where
       numbered (header_rules edition bytes)
       ((lit≤ tt, lit≤ tt), ((lit≤ tt, lit≤ tt), ((lit≤ tt, lit≤ tt), ((lit≤ tt, lit≤ tt), ((lit≤ tt, lit≤ tt), ((lit≤ tt, lit≤ tt), ((lit≤ tt, lit≤ tt), ((lit≤ tt, lit≤ tt), tt))))))))
 
-  -- ---- where there is one, it is the answer
+  -- ---- where the code found one, it is the answer
 
-  pub header_refuses : ((header_fault edition bytes).number ≡ 0 → ⊥) → Err (header_fault edition bytes) ≡ verdict edition bytes
+  pub header_refuses : (r : Refusal) → outcome (header_fault edition bytes) ≡ Err r → Err r ≡ verdict edition bytes
   unfolding header_fault verdict
-  header_refuses z = go first _ z
+  header_refuses r e = go first _ (told (header_fault edition bytes) r e)
     where
-      go : (o : Option TokenFault) (later : Result Program Refusal) → ((refusal_at 0 o).number ≡ 0 → ⊥) → Err (refusal_at 0 o) ≡ after_header o later
-      go none later z = absurd (z refl)
-      go (some f) later z = refl
+      go : (o : Option TokenFault) (later : Result Program Refusal) → (refusal_at 0 o ≡ r) × (r.number ≡ 0 → ⊥) → Err r ≡ after_header o later
+      go none later (e, z) = absurd (z (ap (λ r. r.number) (sym e)))
+      go (some f) later (e, z) = ap Err (sym e)
 
-  -- ---- where there is none, the tokens give the answer
+  -- ---- where it found none, the tokens give the answer
 
-  pub header_right : (header_fault edition bytes).number ≡ 0 → first ≡ none
+  pub header_right : (u : ⊤) → outcome (header_fault edition bytes) ≡ Ok u → first ≡ none
   unfolding header_fault
-  header_right z = go first refl z
+  header_right u e = go first refl (not_told (header_fault edition bytes) u e)
     where
       go : (o : Option TokenFault) → first ≡ o → (refusal_at 0 o).number ≡ 0 → first ≡ none
       go none e z = e

@@ -2,12 +2,11 @@
 -- Assumes nothing.
 use Rattle.std.specs.Prelude.{None, Option, Some}
 use Prim.Native.Nat.{ℕ, zero, suc, ◌+◌, ◌%◌, ◌<◌}
-use mathlib.Core.Bool.{false, not, ◌||◌, or-false, true≢false}
+use mathlib.Core.Bool.{false, ◌||◌, or-false, true≢false}
 use mathlib.Core.List.{◌∷◌}
 use mathlib.Core.Path.{◌≡◌, refl, ◌∙◌, sym, ap, ap₂, fun_ext}
 use native.Mathlib.Omega.{arith}
-use lib.Dec.{eqb}
-use lib.ListN.{get_or, set, length-set}
+use lib.ListN.{length-set}
 use lib.Seq.{get_or-set_same, get_or-set_other}
 use borrow.Author.Tests.{leb-false}
 use Rattle.layout.specs.declared.opcodes.Flow as code
@@ -23,7 +22,7 @@ use Rattle.paths.specs.computed.Check as check
 use Rattle.paths.specs.computed.Check.{current_at, kept_at, kept_after}
 use Rattle.components.specs.declared.written.Written.{Written}
 use Rattle.components.proofs.WrittenLaws.{in_join, in_written}
-use Rattle.verifier.specs.computed.State.{branch, branch_at, slot_of, slot_around, is_misplaced, with_current, met_state, parted_state, written_by, wrote_state}
+use Rattle.verifier.specs.computed.State.{branch, no_branch, branch_at, slot_of, slot_around, is_misplaced, with_current, met_state, parted_state, written_by, wrote_state}
 use Rattle.verifier.specs.declared.state.Branch.{Branch}
 use Rattle.verifier.specs.declared.state.State.{State}
 use Rattle.verifier.proofs.Abstract.{branch_of, kept_of, below, open_in, below_alike, kept_in, abstract_of, Valid, none_open}
@@ -66,33 +65,18 @@ module _ (st : State) (n : ℕ) (v : Valid st) where
       record {
         before = refl;
         after = λ w. refl;
-        valid = λ w. record { depth = v.depth; kept = v.kept; openers = v.openers; els_met = v.els_met };
+        valid = λ w. record { depth = v.depth; around = v.around };
       }
 
   -- ---- an opener
 
   -- the branches below the one that is put away stay
   put_away : (w : Written) (d : ℕ) → slot_of st.depth ≡ d → (i : ℕ) → i < d → branch_at (state_after st Opener n w) i ≡ branch_at st i
-  put_away w d e i h =
-      let other : i ≡ slot_of st.depth → ⊥ = λ k. omega (arith, e, h, k) in
-      let k = get_or-set_other st.kept (slot_of st.depth) i st.innermost.kept (record { low = 0; high = 0 }) other in
-      let o = get_or-set_other st.openers (slot_of st.depth) i st.innermost.opener 0 other in
-      let m = get_or-set_other st.els_met (slot_of st.depth) i st.innermost.els_met 0 other in
-      ap (λ x. branch x (get_or (state_after st Opener n w).openers i 0) (get_or (state_after st Opener n w).els_met i 0)) k
-      ∙ ap₂ (λ x y. branch (get_or st.kept i (record { low = 0; high = 0 })) x y) o m
+  put_away w d e i h = get_or-set_other st.around (slot_of st.depth) i st.innermost no_branch (λ k. omega (arith, e, h, k))
 
   -- and that one is found again
   found_again : (w : Written) (d : ℕ) → slot_of st.depth ≡ d → d < 16 → branch_at (state_after st Opener n w) d ≡ st.innermost
-  found_again w d e h =
-      let at-kept = v.kept in
-      let at-openers = v.openers in
-      let at-els = v.els_met in
-      let k : get_or (set st.kept d st.innermost.kept) d (record { low = 0; high = 0 }) ≡ st.innermost.kept = get_or-set_same st.kept d st.innermost.kept (record { low = 0; high = 0 }) (omega (arith, h, at-kept)) in
-      let o : get_or (set st.openers d st.innermost.opener) d 0 ≡ st.innermost.opener = get_or-set_same st.openers d st.innermost.opener 0 (omega (arith, h, at-openers)) in
-      let m : get_or (set st.els_met d st.innermost.els_met) d 0 ≡ st.innermost.els_met = get_or-set_same st.els_met d st.innermost.els_met 0 (omega (arith, h, at-els)) in
-      ap (λ s. branch (get_or (set st.kept s st.innermost.kept) d (record { low = 0; high = 0 })) (get_or (set st.openers s st.innermost.opener) d 0) (get_or (set st.els_met s st.innermost.els_met) d 0)) e
-      ∙ ap (λ x. branch x (get_or (set st.openers d st.innermost.opener) d 0) (get_or (set st.els_met d st.innermost.els_met) d 0)) k
-      ∙ ap₂ (λ x y. branch st.innermost.kept x y) o m
+  found_again w d e h = let room = v.around in rw e (get_or-set_same st.around d st.innermost no_branch (omega (arith, h, room)))
 
   module _ {A : Type 0} (of : Branch → A) where
     around : (w : Written) (d : ℕ) → st.depth ≡ d → d < 16 → below of (branch_at (state_after st Opener n w)) d ≡ open_in of st.innermost (branch_at st) d
@@ -102,21 +86,19 @@ module _ (st : State) (n : ℕ) (v : Valid st) where
         ap₂ (λ b bs. of b ∷ bs) (found_again w d at (omega (arith, h))) (below_alike of (branch_at (state_after st Opener n w)) (branch_at st) d (put_away w d at))
 
     opened_is : (w : Written) → st.depth < 16
-        → open_in of (branch w n 0) (branch_at (state_after st Opener n w)) (st.depth % 16 + 1) ≡ of (branch w n 0) ∷ open_in of st.innermost (branch_at st) st.depth
+        → open_in of (branch w n false) (branch_at (state_after st Opener n w)) (st.depth % 16 + 1) ≡ of (branch w n false) ∷ open_in of st.innermost (branch_at st) st.depth
     opened_is w h =
         let deeper : st.depth % 16 + 1 ≡ suc st.depth = omega (arith, h) in
-        ap (open_in of (branch w n 0) (branch_at (state_after st Opener n w))) deeper ∙ ap (λ bs. of (branch w n 0) ∷ bs) (around w st.depth refl h)
+        ap (open_in of (branch w n false) (branch_at (state_after st Opener n w))) deeper ∙ ap (λ bs. of (branch w n false) ∷ bs) (around w st.depth refl h)
 
   opener_follows : is_misplaced st Opener ≡ false → Follows st Opener n
   opener_follows m =
       let h = leb-false 16 st.depth m in
-      let at-kept = v.kept in
-      let at-openers = v.openers in
-      let at-els = v.els_met in
+      let room = v.around in
       record {
         before = refl;
         after = λ w. ap₂ (λ bs ks. record { open_branches = bs; current = component_set w; kept = ks }) (opened_is branch_of w h) (opened_is kept_of w h);
-        valid = λ w. record { depth = omega (arith, h); kept = simp length-set at-kept; openers = simp length-set at-openers; els_met = simp length-set at-els };
+        valid = λ w. record { depth = omega (arith, h); around = simp length-set room };
       }
 
   -- ---- els and eif, where d + 1 branches are open
@@ -127,7 +109,7 @@ module _ (st : State) (n : ℕ) (v : Valid st) where
         record {
           before = rw e;
           after = λ w. rw e;
-          valid = λ w. record { depth = v.depth; kept = v.kept; openers = v.openers; els_met = v.els_met };
+          valid = λ w. record { depth = v.depth; around = v.around };
         }
 
     module _ {A : Type 0} (of : Branch → A) where
@@ -150,7 +132,7 @@ module _ (st : State) (n : ℕ) (v : Valid st) where
         record {
           before = rw e (fun_ext (in_join st.current st.innermost.kept));
           after = λ w. ap₂ (λ bs ks. record { open_branches = bs; current = component_set w; kept = ks }) (joined_is branch_of) (joined_is kept_of) ∙ rw e;
-          valid = λ w. record { depth = omega (arith, e, h); kept = v.kept; openers = v.openers; els_met = v.els_met };
+          valid = λ w. record { depth = omega (arith, e, h); around = v.around };
         }
 
   pub follows : (f : code.Flow) → is_misplaced st f ≡ false → Follows st f n
@@ -159,7 +141,7 @@ module _ (st : State) (n : ℕ) (v : Valid st) where
   follows Els m = go st.depth refl
     where
       go : (k : ℕ) → st.depth ≡ k → Follows st Els n
-      go zero e = absurd (true≢false (sym (ap (λ b. b || not (eqb st.innermost.els_met 0)) (none_open st e)) ∙ m))
+      go zero e = absurd (true≢false (sym (ap (λ b. b || st.innermost.els_met) (none_open st e)) ∙ m))
       go (suc d) e = els_follows d e
   follows Eif m = go st.depth refl
     where

@@ -1,6 +1,5 @@
 -- One step of the code is one token of the check over paths.
 -- Assumes nothing.
-use Rattle.std.specs.Prelude.{None, Option, Some}
 use Prim.Native.Nat.{ℕ, suc, ◌≤◌}
 use mathlib.Core.Bool.{Bool, true, false, not, cond}
 use mathlib.Core.List.{List, ◌∷◌}
@@ -8,9 +7,10 @@ use mathlib.Core.Option.{none}
 use mathlib.Core.Path.{◌≡◌, refl, ◌∙◌, sym, ap, subst}
 use native.Mathlib.Decide.{dec_lt}
 use native.Mathlib.Omega.{arith}
-use lib.Dec.{eqb, leb, leb→le}
-use borrow.Author.Tests.{leb-false, eq-eqb}
-use Rattle.bytecode.specs.Decode.{refusal, no_refusal}
+use lib.Dec.{leb, leb→le}
+use borrow.Author.Tests.{leb-false}
+use Rattle.std.specs.Prelude.{Option, Some, None, Result, Ok, Err, ⊤}
+use Rattle.bytecode.specs.Decode.{refusal}
 use Rattle.bytecode.specs.declared.answers.Refusal.{Refusal}
 use Rattle.layout.specs.Opcodes.{flow_of}
 use Rattle.layout.specs.declared.opcodes.Flow.{Flow}
@@ -34,14 +34,18 @@ use Rattle.paths.specs.computed.Check.{judge, lacks, set_before, next_state, che
 use Rattle.components.proofs.AccessLaws.{lacks_reads1, lacks_reads2}
 use Rattle.faults.specs.Rules.{destination_wrong}
 use Rattle.verifier.specs.computed.State.{is_misplaced, set_met, met_state, wrote_state, parted_state, with_fault}
-use Rattle.verifier.specs.computed.Step.{next_of, fault_of_paths, follow_of}
+use Rattle.verifier.specs.computed.Step.{next_of, fault_of_paths, unless_found, follow_of}
 use Rattle.verifier.specs.declared.state.State.{State}
 use Rattle.verifier.proofs.Abstract.{abstract_of, branches_in, misplaced_is, Valid}
 use Rattle.verifier.proofs.NextState.{Kept, wrote_is, next_abstract, follows}
 
 -- what a state means for the answer: its fault, or what the tokens that are left, which are numbered from n, make of it
+abbrev pub told_by : Option Refusal → Answer → Answer
+told_by (Some r) later = refused r.number r.token r.part
+told_by None later = later
+
 abbrev pub tells : State → ℕ → List PathToken → Answer
-tells st n rest = cond (eqb st.fault.number 0) (check_from (abstract_of st) n rest) (refused st.fault.number st.fault.token st.fault.part)
+tells st n rest = told_by st.fault (check_from (abstract_of st) n rest)
 
 -- ---- a written temporary is kept
 
@@ -64,23 +68,18 @@ kept edition stage (Some r) e =
     let q = ap (λ x. count_of x edition stage) k in
     omega (arith, temporary_count edition stage)
 
--- ---- the fault stays as a token is met, written and passed
+-- ---- what follows a token without a fault
 
-met_fault : (st : State) (f : Flow) → (met_state st f).fault ≡ st.fault
-met_fault st Plain = refl
-met_fault st Opener = refl
-met_fault st Els = refl
-met_fault st Eif = refl
-
-wrote_fault : (st : State) (d : Option MaskedRegister) → (wrote_state st d).fault ≡ st.fault
-wrote_fault st None = refl
-wrote_fault st (Some r) = refl
-
-parted_fault : (st : State) (f : Flow) (n : ℕ) → (parted_state st f n).fault ≡ st.fault
-parted_fault st Plain n = refl
-parted_fault st Opener n = refl
-parted_fault st Els n = refl
-parted_fault st Eif n = refl
+-- the fault stays as a token is met, written and passed
+fault_stays : (st : State) (f : Flow) (d : Option MaskedRegister) (n : ℕ) → (parted_state (wrote_state (met_state st f) d) f n).fault ≡ st.fault
+fault_stays st Plain None n = refl
+fault_stays st Plain (Some r) n = refl
+fault_stays st Opener None n = refl
+fault_stays st Opener (Some r) n = refl
+fault_stays st Els None n = refl
+fault_stays st Els (Some r) n = refl
+fault_stays st Eif None n = refl
+fault_stays st Eif (Some r) n = refl
 
 -- the set at hand of the state that a token meets
 met_current : (st : State) (f : Flow) → set_met f st.current st.innermost.kept ≡ (met_state st f).current
@@ -89,31 +88,27 @@ met_current st Opener = refl
 met_current st Els = refl
 met_current st Eif = refl
 
--- a step by the values of its tests
+-- 20 and 21 by the values of their tests
+abbrev found_by : ℕ → Bool → Bool → Bool → Result ⊤ Refusal
+found_by n m a b = cond m (Err (refusal 20 n 0)) (cond a (Err (refusal 21 n 2)) (cond b (Err (refusal 21 n 3)) (Ok tt)))
+
+-- so a step
 abbrev pub by_tests : State → ℕ → Token → Bool → Bool → Bool → State
-by_tests st n t m a b = cond m (with_fault st (refusal 20 n 0)) (cond a (with_fault st (refusal 21 n 2)) (cond b (with_fault st (refusal 21 n 3)) (next_of st n t)))
+by_tests st n t m a b = unless_found (found_by n m a b) st (next_of st n t)
 
 pub follow_tests : (st : State) (n : ℕ) (t : Token)
     → let f = flow_of t.opcode in
     follow_of st n t ≡ by_tests st n t (is_misplaced st f) (lacks_access (met_state st f).current (access1_of t)) (lacks_access (met_state st f).current (access2_of t))
 unfolding follow_of fault_of_paths
 follow_tests st n t =
-    go (is_misplaced st (flow_of t.opcode)) (lacks_access (set_met (flow_of t.opcode) st.current st.innermost.kept) (access1_of t)) (lacks_access (set_met (flow_of t.opcode) st.current st.innermost.kept) (access2_of t))
-    ∙ ap (λ w. by_tests st n t (is_misplaced st (flow_of t.opcode)) (lacks_access w (access1_of t)) (lacks_access w (access2_of t))) (met_current st (flow_of t.opcode))
-  where
-    go : (m a b : Bool) → let r = cond m (refusal 20 n 0) (cond a (refusal 21 n 2) (cond b (refusal 21 n 3) no_refusal)) in
-        cond (eqb r.number 0) (next_of st n t) (with_fault st r) ≡ by_tests st n t m a b
-    go true a b = refl
-    go false true b = refl
-    go false false true = refl
-    go false false false = refl
+    ap (λ w. by_tests st n t (is_misplaced st (flow_of t.opcode)) (lacks_access w (access1_of t)) (lacks_access w (access2_of t))) (met_current st (flow_of t.opcode))
 
 pub valid_fault : (st : State) → Valid st → (r : Refusal) → Valid (with_fault st r)
-valid_fault st v r = record { depth = v.depth; kept = v.kept; openers = v.openers; els_met = v.els_met }
+valid_fault st v r = record { depth = v.depth; around = v.around }
 
 -- ---- 20, 21 and the next state, of a record with no fault of its own
 
-module _ (st : State) (v : Valid st) (sound : st.fault.number ≡ 0) (n : ℕ) (t : Token) (rest : List PathToken) where
+module _ (st : State) (v : Valid st) (sound : st.fault ≡ None) (n : ℕ) (t : Token) (rest : List PathToken) where
   abbrev pub pt : PathToken
   pt = path_token_of none t
 
@@ -140,8 +135,8 @@ module _ (st : State) (v : Valid st) (sound : st.fault.number ≡ 0) (n : ℕ) (
       )
 
   -- a step makes no fault but those that it names
-  next_sound : (next_of st n t).fault.number ≡ 0
-  next_sound = ap (λ r. r.number) (parted_fault (wrote_state (met_state st f) t.destination) f n ∙ wrote_fault (met_state st f) t.destination ∙ met_fault st f) ∙ sound
+  next_sound : (next_of st n t).fault ≡ None
+  next_sound = fault_stays st f t.destination n ∙ sound
 
   -- the tests by their values
   decided : (m a b : Bool) (later : Answer) → (m ≡ false → later ≡ check_from (abstract_of (next_of st n t)) (suc n) rest)
@@ -149,7 +144,7 @@ module _ (st : State) (v : Valid st) (sound : st.fault.number ≡ 0) (n : ℕ) (
   decided true a b later k = refl
   decided false true b later k = refl
   decided false false true later k = refl
-  decided false false false later k = k refl ∙ rw (eq-eqb (next_of st n t).fault.number 0 next_sound)
+  decided false false false later k = k refl ∙ rw next_sound
 
   pub followed : Kept t.destination → check_from (abstract_of st) n (pt ∷ rest) ≡ tells (follow_of st n t) (suc n) rest
   unfolding check_from

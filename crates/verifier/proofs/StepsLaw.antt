@@ -1,8 +1,7 @@
 -- The steps over all tokens give the answer of the check over paths; and what a loop needs of them.
 -- Assumes nothing.
-use Rattle.std.specs.Prelude.{Err, Ok}
 use Prim.Native.Nat.{ℕ, zero, suc, ◌+◌, ◌-◌, ◌*◌, ◌/◌, ◌%◌, ◌^◌, ◌≤◌, ◌<◌}
-use mathlib.Core.Bool.{Bool, true, false, not, cond}
+use mathlib.Core.Bool.{Bool, true, false, not, cond, false≢true}
 use mathlib.Core.List.{List, []}
 use mathlib.Core.Path.{◌≡◌, refl, ◌∙◌, sym, ap, ap₂, fun_ext}
 use native.Mathlib.Nat.{zero-div}
@@ -14,9 +13,10 @@ use borrow.Author.Tests.{eq-eqb, ne_eqb, le-ltb, leb-true, not-true}
 use Rattle.laws.proofs.Every.{left as both_left, right as both_right}
 use Rattle.paths.specs.computed.Sets.{nothing}
 use Rattle.components.specs.computed.Written.{component_set, half_of}
-use Rattle.paths.specs.Faults.{refused}
 use Rattle.paths.specs.computed.Check.{start, check_from, verdict_of}
+use Rattle.std.specs.Prelude.{Option, Some, None, Ok, Err, is_some}
 use Rattle.bytecode.specs.Decode.{refusal, token_fault}
+use Rattle.bytecode.specs.declared.answers.Refusal.{Refusal}
 use Rattle.bytecode.specs.computed.CleanFields.{is_clean, fields_in}
 use Rattle.bytecode.specs.Fields.{fields_of}
 use Rattle.layout.specs.Opcodes.{shape_of}
@@ -26,12 +26,12 @@ use Rattle.faults.specs.Order.{tokens_from, tokens_of}
 use Rattle.faults.specs.computed.Profile.{profile_of}
 use Rattle.faults.specs.declared.profile.Profile.{Profile}
 use Rattle.verifier.specs.computed.State.{none_written, start_state, with_fault}
-use Rattle.verifier.specs.computed.Step.{fault_of_fields, step_of}
-use Rattle.verifier.specs.computed.Steps.{steps_over, finish_of, judged_by, opens_unlisted}
+use Rattle.verifier.specs.computed.Step.{unless_refused, fault_of_fields, step_of}
+use Rattle.verifier.specs.computed.Steps.{steps_over, unless_met, finish_of, judged_by, opens_unlisted}
 use Rattle.verifier.specs.Verdict.{program, answer_of}
 use Rattle.verifier.specs.declared.state.State.{State}
 use Rattle.verifier.proofs.Abstract.{abstract_of, Valid, valid_start}
-use Rattle.verifier.proofs.StepLaw.{tells}
+use Rattle.verifier.proofs.StepLaw.{told_by, tells}
 use Rattle.verifier.proofs.TokenLaw.{steps}
 
 -- the fields that the code reads of a token that stands within the bytes
@@ -60,6 +60,10 @@ start_is : abstract_of start_state ≡ start
 start_is = ap (λ w. record { open_branches = []; current = w; kept = [] }) none_written_lem
 
 -- ---- steps one after another
+
+held : (o : Option Refusal) (st next : State) → is_some o ≡ true → unless_refused o st next ≡ st
+held None st next e = absurd (false≢true e)
+held (Some r) st next e = refl
 
 module _ (profile : Profile) (bytes : List ℕ) where
   abbrev step : State → ℕ → State
@@ -110,10 +114,10 @@ module _ (profile : Profile) (bytes : List ℕ) where
         ap (λ s. steps_over profile bytes s (n + 1) (count - (n + 1))) (sym made) ∙ ap (steps_over profile bytes st n) (sym apart) ∙ e
 
   -- a state that has a fault stays as it is
-  pub stays : (st : State) → (st.fault.number ≡ 0 → ⊥) → (n left : ℕ) → steps_over profile bytes st n left ≡ st
+  pub stays : (st : State) → is_some st.fault ≡ true → (n left : ℕ) → steps_over profile bytes st n left ≡ st
   unfolding steps_over step_of
-  stays st z n zero = refl
-  stays st z n (suc left) = rw (ne_eqb st.fault.number 0 z) (stays st z (n + 1) left)
+  stays st e n zero = refl
+  stays st e n (suc left) = ap (λ s. steps_over profile bytes s (n + 1) left) (held st.fault st _ e) ∙ stays st e (n + 1) left
 
 -- ---- what the last state answers
 
@@ -140,14 +144,14 @@ module _ (edition : ℕ) (bytes : List ℕ) (header : 7 ≤ length bytes) where
 
   ends : (st : State) (n : ℕ) → answer_of bytes (tells st n []) ≡ finish_of st (stage_of bytes) (token_count bytes)
   unfolding check_from finish_of
-  ends st n = go (eqb st.fault.number 0) st.depth refl
+  ends st n = go st.fault st.depth refl
     where
-      go : (b : Bool) (d : ℕ) → st.depth ≡ d
-          → answer_of bytes (cond b (check_from (abstract_of st) n []) (refused st.fault.number st.fault.token st.fault.part))
-          ≡ cond b (cond (eqb st.depth 0) (Ok (program (stage_of bytes) (token_count bytes))) (Err (refusal 22 st.innermost.opener 0))) (Err st.fault)
-      go true zero e = rw (eq-eqb st.depth 0 e, e)
-      go true (suc d) e = rw (ne_eqb st.depth 0 (λ z. omega (arith, e, z)), e)
-      go false d e = refl
+      go : (o : Option Refusal) (d : ℕ) → st.depth ≡ d
+          → answer_of bytes (told_by o (check_from (abstract_of st) n []))
+          ≡ unless_met o (cond (eqb st.depth 0) (Ok (program (stage_of bytes) (token_count bytes))) (Err (refusal 22 st.innermost.opener 0)))
+      go None zero e = rw (eq-eqb st.depth 0 e, e)
+      go None (suc d) e = rw (ne_eqb st.depth 0 (λ z. omega (arith, e, z)), e)
+      go (Some r) d e = refl
 
   pub judged : judged_by edition bytes ≡ answer_of bytes (verdict_of (tokens_of edition bytes))
   unfolding judged_by
@@ -168,5 +172,5 @@ module _ (edition : ℕ) (bytes : List ℕ) (header : 7 ≤ length bytes) where
       let last : steps_over profile bytes start_state 0 (token_count bytes) ≡ with_fault start_state (refusal 9 0 0) =
       ap (steps_over profile bytes start_state 0) some
       ∙ ap (λ s. steps_over profile bytes s 1 (token_count bytes - 1)) refuses
-      ∙ stays profile bytes (with_fault start_state (refusal 9 0 0)) (λ z. omega (arith, z)) 1 (token_count bytes - 1) in
+      ∙ stays profile bytes (with_fault start_state (refusal 9 0 0)) refl 1 (token_count bytes - 1) in
       rw last

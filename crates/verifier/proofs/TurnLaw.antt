@@ -1,17 +1,22 @@
 -- The turns of the check's loop: each goes on with a state from which the same last state is reached.
 -- Assumes nothing.
 use Prim.Native.Nat.{ℕ, ◌+◌, ◌-◌, ◌≤◌}
+use mathlib.Core.Bool.{true, false, true≢false}
 use mathlib.Core.List.{List}
 use mathlib.Core.Path.{◌≡◌, refl, ◌∙◌, sym, ap, subst}
 use native.Mathlib.Omega.{arith}
+use Rattle.std.specs.Prelude.{Option, Some, None, is_some}
+use Rattle.bytecode.specs.declared.answers.Refusal.{Refusal}
 use Rattle.bytecode.specs.Fields.{fields_of}
 use Rattle.layout.specs.Programs.{token_at}
 use Rattle.layout.specs.declared.fields.Fields.{Fields}
 use Rattle.layout.specs.declared.opcodes.Flow.{Flow}
 use Rattle.components.specs.declared.written.Written.{Written}
+use Rattle.faults.specs.computed.LawfulTests.{usable_of}
+use Rattle.faults.specs.computed.Profile.{profile_of}
 use Rattle.faults.specs.declared.lawful.Usable.{Usable}
 use Rattle.faults.specs.declared.profile.Profile.{Profile}
-use Rattle.verifier.specs.computed.Glance.{RunsOver, branch_step, KnownBranch, CanJudge}
+use Rattle.verifier.specs.computed.Glance.{Whenever, RunsOver, branch_step, KnownBranch, CanJudge}
 use Rattle.verifier.specs.computed.State.{start_state, with_current}
 use Rattle.verifier.specs.computed.Step.{step_of}
 use Rattle.verifier.specs.computed.Steps.{steps_over}
@@ -19,7 +24,14 @@ use Rattle.verifier.specs.declared.glance.Run.{Run}
 use Rattle.verifier.specs.declared.state.State.{State}
 use Rattle.verifier.proofs.StepsLaw.{Leads, leads_on, leads_by_step, stays}
 
-module _ (profile : Profile) (usable : Usable) (bytes : List ℕ) (count : ℕ) where
+pub none_met : (o : Option Refusal) → is_some o ≡ false → o ≡ None
+none_met None e = refl
+none_met (Some r) e = absurd (true≢false e)
+
+module _ (usable : Usable) (bytes : List ℕ) (count : ℕ) where
+  abbrev profile : Profile
+  profile = usable.profile
+
   -- the state after all tokens
   abbrev last : State
   last = steps_over profile bytes start_state 0 count
@@ -27,7 +39,7 @@ module _ (profile : Profile) (usable : Usable) (bytes : List ℕ) (count : ℕ) 
   -- a state without a fault, at token n, from which the last one is reached
   pub record Reached (st : State) (n : ℕ) : Type 0 where
     pub within : n ≤ count
-    pub sound : st.fault.number ≡ 0
+    pub sound : st.fault ≡ None
     pub leads : Leads profile bytes count last st n
 
   pub reached_first : Reached start_state 0
@@ -37,37 +49,38 @@ module _ (profile : Profile) (usable : Usable) (bytes : List ℕ) (count : ℕ) 
   unfolding steps_over
   reached_last st n at h = let none : count - n ≡ 0 = omega arith in ap (steps_over profile bytes st n) (sym none) ∙ at.leads
 
-  -- a turn: a run of tokens that are passed at a glance, from a state and a token that are reached
-  module _ (can : CanJudge profile usable bytes count) (before : State) (first : ℕ) (at : Reached before first)
-      (r : Run) (over : RunsOver profile usable before.current bytes first count r) (current : Written) (same : current ≡ r.current) where
-    abbrev st : State
-    st = with_current before current
+  module _ (can : CanJudge usable bytes count) where
+    made : usable ≡ usable_of (profile_of profile.edition profile.stage)
+    made = can.used ∙ ap usable_of can.made
 
-    abbrev n : ℕ
-    n = r.token
+    -- what is known at a glance holds of the state that is reached
+    pub known : (st : State) (n : ℕ) → Reached st n → (Holds : Profile → State → Type 0) → Whenever usable st.current Holds → Holds profile st
+    known st n at Holds told = subst (λ p. Holds p st) (sym can.made) (told profile.edition profile.stage made st at.sound refl)
 
-    pub after_run : Reached st n
-    after_run =
+    -- so of the step at the token of a branch
+    pub known_step : (st : State) (n : ℕ) → Reached st n → (f : Fields) (flow : Flow) → KnownBranch usable st f flow
+        → branch_step flow st n (step_of st profile n f)
+    known_step st n at f flow told =
+        subst (λ p. branch_step flow st n (step_of st p n f)) (sym can.made) (told profile.edition profile.stage made at.sound n)
+
+    -- after a run of tokens that are passed at a glance
+    pub after_run : (before : State) (first : ℕ) → Reached before first → (r : Run) → RunsOver usable before.current bytes first count r
+        → (current : Written) → current ≡ r.current → Reached (with_current before current) r.token
+    after_run before first at r over current same =
         record {
           within = over.to;
           sound = at.sound;
-          leads = leads_on profile bytes count last before first n over.from over.to at.leads st
-              (subst (λ p. steps_over p bytes before first (n - first) ≡ st) (sym can.made) (over.steps profile.edition profile.stage can.made can.used before at.sound refl ∙ ap (with_current before) (sym same)));
+          leads = leads_on profile bytes count last before first r.token over.from over.to at.leads (with_current before current) (known before first at (λ p st. steps_over p bytes st first (r.token - first) ≡ with_current st r.current) over.steps ∙ ap (with_current before) (sym same));
         }
 
-    -- and then one token more, by its fields as the code reads them
-    module _ (inside : n + 1 ≤ count) (f : Fields) (read : f ≡ fields_of (token_at bytes n)) where
-      reaches : (next : State) → next ≡ step_of st profile n f → Leads profile bytes count last next (n + 1)
-      reaches next e = leads_by_step profile bytes count last st n (omega (arith, inside)) after_run.leads next (ap (step_of st profile n) (sym read) ∙ sym e)
+  -- and then one token more, by its fields as the code reads them
+  module _ (st : State) (n : ℕ) (at : Reached st n) (inside : n + 1 ≤ count) (f : Fields) (read : f ≡ fields_of (token_at bytes n))
+      (next : State) (stepped : next ≡ step_of st profile n f) where
+    reaches : Leads profile bytes count last next (n + 1)
+    reaches = leads_by_step profile bytes count last st n (omega (arith, inside)) at.leads next (ap (step_of st profile n) (sym read) ∙ sym stepped)
 
-      pub after_step : (next : State) → next ≡ step_of st profile n f → next.fault.number ≡ 0 → Reached next (n + 1)
-      after_step next e z = record { within = inside; sound = z; leads = reaches next e }
+    pub after_step : next.fault ≡ None → Reached next (n + 1)
+    after_step sound = record { within = inside; sound = sound; leads = reaches }
 
-      pub refused_at : (next : State) → next ≡ step_of st profile n f → (next.fault.number ≡ 0 → ⊥) → next ≡ last
-      refused_at next e z = sym (stays profile bytes next z (n + 1) (count - (n + 1))) ∙ reaches next e
-
-      pub after_branch : (known flow : Flow) → KnownBranch profile usable st.depth st.innermost st.current f known → known ≡ flow
-          → (next : State) → next.fault ≡ st.fault → ((reached : State) → branch_step flow st n reached → reached ≡ next) → Reached next (n + 1)
-      after_branch known flow holds is next keeps tells =
-          let step = subst (λ p. branch_step known st n (step_of st p n f)) (sym can.made) (holds profile.edition profile.stage can.made can.used st at.sound refl refl refl n) in
-          after_step next (sym (tells (step_of st profile n f) (subst (λ g. branch_step g st n (step_of st profile n f)) is step))) (ap (λ r. r.number) keeps ∙ at.sound)
+    pub refused_at : is_some next.fault ≡ true → next ≡ last
+    refused_at e = sym (stays profile bytes next e (n + 1) (count - (n + 1))) ∙ reaches

@@ -10,7 +10,6 @@ use crate::answers::Program;
 use crate::state::State;
 use crate::{glance, places, state};
 use bytecode::answers::Refusal;
-use components::written;
 use faults::lawful::Usable;
 use faults::profile::Profile;
 use layout::opcodes;
@@ -20,10 +19,7 @@ use layout::opcodes::Flow;
 pub fn check(edition: u32, bytes: &[u8]) -> Result<Program, Refusal>
     ensures { Checks edition bytes.now result }
 {
-    let fault = faults::header_fault(edition, bytes);
-    if fault.number != 0 {
-        return Err(fault);
-    }
+    faults::header_fault(edition, bytes)?;
     if opens_unlisted(bytes) {
         return Err(bytecode::refusal(9, 0, 0));
     }
@@ -32,6 +28,7 @@ pub fn check(edition: u32, bytes: &[u8]) -> Result<Program, Refusal>
 
 // Whether the opcode of the first token is not listed. Bytes that are no program show there, and are refused before registers are counted and
 // a state is made.
+#[tactic(auto, unfolding(crate::specs::computed::Steps::opens_unlisted))]
 fn opens_unlisted(bytes: &[u8]) -> bool
     ensures { result ≡ opens_unlisted bytes.now }
 {
@@ -39,12 +36,12 @@ fn opens_unlisted(bytes: &[u8]) -> bool
     if bytes.len() < 31 {
         return false;
     }
-    let f = places::fields_at(bytes, 0);
-    let shape = opcodes::shape_of(f.opcode);
-    !shape.listed
+    let first = places::fields_at(bytes, 0);
+    !opcodes::shape_of(first.opcode).listed
 }
 
 // Faults 9 to 22 of a program that has a header.
+#[tactic(auto, unfolding(crate::specs::computed::Steps::judged_by, faults::specs::computed::LawfulTests::usable_of))]
 fn check_tokens(edition: u32, bytes: &[u8]) -> Result<Program, Refusal>
     requires in_bounds { 7 ≤ length bytes.now }
     requires bytes_bound { token_count bytes.now < 65536 }
@@ -52,47 +49,41 @@ fn check_tokens(edition: u32, bytes: &[u8]) -> Result<Program, Refusal>
 {
     let stage = bytes[6];
     let count = (bytes.len() - 7) / 24;
-    let profile = faults::profile_of(edition, stage);
-    let usable = faults::usable_of(profile);
-    last_state(profile, usable, bytes, count).finish(stage, count)
+    let usable = Usable::of(Profile::of(edition, stage));
+    last_state(usable, bytes, count).finish(stage, count)
 }
 
 // The state after so many tokens, or after the first of them that has a fault: a run of tokens at a glance, then one token by itself, until
-// there is none left. What a known opener puts away and a known eif takes up again is stored and read here, in its place: a method that took
-// the arrays would copy them. For the same reason a refused state is handed back before it is assigned.
-fn last_state(profile: Profile, usable: Usable, bytes: &[u8], count: usize) -> State
-    requires { CanJudge profile usable bytes.now count }
-    ensures { result ≡ steps_over profile bytes.now start_state 0 count }
+// there is none left. The tokens are counted by hand, since a run takes any number of them. The branch that a known opener puts away and a
+// known eif takes up again is stored and read here, in its place: a method that took the array would copy it. For the same reason a refused
+// state is handed back before it is assigned.
+fn last_state(usable: Usable, bytes: &[u8], count: usize) -> State
+    requires { CanJudge usable bytes.now count }
+    ensures { result ≡ steps_over usable.profile bytes.now start_state 0 count }
 {
     let mut state = state::START;
     let mut token = 0;
     loop {
-        let run = glance::pass_tokens(profile, usable, state.current, bytes, token, count);
-        state.current = written::by_halves(run.current);
+        let run = glance::pass_tokens(usable, state.current, bytes, token, count);
+        state.current = run.current.by_halves();
         token = run.token + 1;
         if count < token {
             return state;
         }
         let f = places::fields_at(bytes, run.token);
-        let innermost = state.innermost;
-        match glance::known_branch(profile, usable, state.depth, innermost, state.current, f) {
+        match state.known_branch(usable, f) {
             Flow::Opener => {
-                let place = state::slot(state.depth);
-                let kept = innermost.kept;
-                state.kept[place] = kept;
-                state.openers[place] = innermost.opener;
-                state.els_met[place] = innermost.els_met;
+                state.around[state.slot()] = state.innermost;
                 state = state.entered(run.token as u16);
             }
             Flow::Els => state = state.exchanged(),
             Flow::Eif => {
-                let place = state::slot_around(state.depth);
-                let kept = state.kept[place];
-                state = state.closed(kept, state.openers[place], state.els_met[place]);
+                let around = state.around[state.slot_around()];
+                state = state.closed(around);
             }
             Flow::Plain => {
-                let next = state.step(profile, run.token as u16, f);
-                if next.fault.number != 0 {
+                let next = state.step(usable.profile, run.token as u16, f);
+                if next.fault.is_some() {
                     return next;
                 }
                 state = next;
@@ -103,17 +94,16 @@ fn last_state(profile: Profile, usable: Usable, bytes: &[u8], count: usize) -> S
 
 impl State {
     // The answer after the last token: the fault that was met, or 22 where a branch is still open, at its opener.
+    #[tactic(auto, unfolding(crate::specs::computed::Steps::finish_of))]
     pub(crate) fn finish(self, stage: u8, tokens: usize) -> Result<Program, Refusal>
         ensures { result ≡ finish_of self stage tokens }
     {
-        let fault = self.fault;
-        if fault.number != 0 {
+        if let Some(fault) = self.fault {
             return Err(fault);
         }
         if self.depth == 0 {
             return Ok(Program { stage, tokens });
         }
-        let innermost = self.innermost;
-        Err(bytecode::refusal(22, innermost.opener as usize, 0))
+        Err(bytecode::refusal(22, self.innermost.opener as usize, 0))
     }
 }

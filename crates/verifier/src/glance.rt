@@ -1,24 +1,16 @@
 // Tokens that are passed at a glance: a few tests tell that a token has no fault, and what it does to the state. Most tokens pass; the others
 // are judged rule by rule.
-ghost use Rattle.std.specs.Prelude.{true, false, ◌≡◌, ◌*◌, ◌+◌, ◌≤◌, length};
-ghost use Rattle.verifier.specs.computed.Glance.{Passes, passed_unless, RunsOver, known_unless, KnownBranch};
+ghost use Rattle.std.specs.Prelude.{◌≡◌, ◌*◌, ◌+◌, ◌≤◌, length, IfSome};
+ghost use Rattle.verifier.specs.computed.Glance.{Passes, passed_unless, RunsOver, opens_unwritten, KnownBranch};
 
-use crate::state::Branch;
+use crate::state::State;
 use crate::{places, state};
 use components::quick;
 use components::written::Written;
 use faults::lawful::Usable;
-use faults::profile::Profile;
 use layout::fields::Fields;
 use layout::opcodes;
 use layout::opcodes::Flow;
-
-// Whether a token is known to have no fault, and then the set after it.
-#[derive(Clone, Copy)]
-pub struct Passed {
-    pub known: bool,
-    pub current: Written,
-}
 
 // The set at hand after a run of tokens, and the number of the token after them.
 #[derive(Clone, Copy)]
@@ -30,7 +22,6 @@ pub struct Run {
 // Passes tokens that are no branches, one after the other, as long as each is known to have no fault. They leave branches alone, so the set
 // at hand is all of the state that they touch.
 pub(crate) fn pass_tokens(
-    profile: Profile,
     usable: Usable,
     from: Written,
     bytes: &[u8],
@@ -39,108 +30,86 @@ pub(crate) fn pass_tokens(
 ) -> Run
     requires first_le_count { first ≤ count }
     requires count_in_bounds { 7 + count * 24 ≤ length bytes.now }
-    ensures { RunsOver profile usable from bytes.now first count result }
+    ensures { RunsOver usable from bytes.now first count result }
 {
     let mut current = from;
-    let mut token = first;
-    while token < count {
+    for token in first..count {
         let f = places::fields_at(bytes, token);
-        let passed = pass(profile, usable, current, f);
-        if !passed.known {
+        let Some(next) = pass(usable, current, f) else {
             return Run { current, token };
-        }
-        let next = passed.current;
+        };
         current = next;
-        token += 1;
     }
-    Run { current, token }
+    Run {
+        current,
+        token: count,
+    }
 }
 
-fn pass(profile: Profile, usable: Usable, current: Written, f: Fields) -> Passed
-    ensures { result.known ≡ true → Passes profile usable current f result.current }
+// The set after a token, where the token is known to have no fault.
+fn pass(usable: Usable, current: Written, f: Fields) -> Option<Written>
+    ensures { IfSome result (Passes usable current f) }
 {
     // Branches end a run; they are told first, since none of the tests below passes them.
     if opcodes::is_branch(f.opcode) {
-        return unknown(current);
+        return None;
     }
     // D is the same bit of both fields, so one test asks for both. Of a sampler it is a bit of the filter, which no right sampler has set.
     if layout::is_indexed(f.source1 | f.source2) {
-        if faults::is_lawful_indexed(usable, f) {
+        if usable.is_lawful_indexed(f) {
             return passed_unless(quick::indexed_may_read_unwritten(current, f), current, f);
         }
-        return unknown(current);
+        return None;
     }
-    if faults::is_lawful(usable, f) {
+    if usable.is_lawful(f) {
         return passed_unless(quick::may_read_unwritten(current, f), current, f);
     }
-    if faults::is_lawful_matrix(usable, f) {
+    if usable.is_lawful_matrix(f) {
         return passed_unless(quick::matrix_may_read_unwritten(current, f), current, f);
     }
-    if faults::is_lawful_tex(profile, usable, f) {
+    if usable.is_lawful_tex(f) {
         return passed_unless(quick::tex_may_read_unwritten(current, f), current, f);
     }
-    if faults::is_lawful_kil(profile, usable, f) {
+    if usable.is_lawful_kil(f) {
         // It writes nothing.
-        return Passed {
-            known: !quick::kil_may_read_unwritten(current, f),
-            current,
-        };
+        return (!quick::kil_may_read_unwritten(current, f)).then_some(current);
     }
-    unknown(current)
-}
-
-fn unknown(current: Written) -> Passed
-    ensures { result ≡ record { known = false; current = current } }
-{
-    Passed {
-        known: false,
-        current,
-    }
+    None
 }
 
 // A lawful token is passed unless it may read what is not written.
-fn passed_unless(unwritten: bool, current: Written, f: Fields) -> Passed
+fn passed_unless(unwritten: bool, current: Written, f: Fields) -> Option<Written>
     ensures { result ≡ passed_unless unwritten current f }
 {
     if unwritten {
-        return unknown(current);
+        return None;
     }
-    let next = state::written_by(current, layout::unpack_register(f.destination));
-    Passed {
-        known: true,
-        current: next,
+    let register = layout::unpack_register(f.destination);
+    Some(state::written_by(current, register))
+}
+
+impl State {
+    // What a token of a branch does to the state, where it is known to have no fault; Plain where that is not known, or it is no branch.
+    pub(crate) fn known_branch(&self, usable: Usable, f: Fields) -> Flow
+        ensures { KnownBranch usable self.now f result }
+    {
+        if !usable.is_lawful_branch(f) {
+            return Flow::Plain;
+        }
+        let flow = opcodes::flow_of(f.opcode);
+        if self.is_misplaced(flow) | opens_unwritten(flow, self.current, f) {
+            return Flow::Plain;
+        }
+        flow
     }
 }
 
-// What a token of a branch does to the state, where it is known to have no fault; Plain where that is not known, or it is no branch.
-pub(crate) fn known_branch(
-    profile: Profile,
-    usable: Usable,
-    depth: usize,
-    innermost: Branch,
-    current: Written,
-    f: Fields,
-) -> Flow
-    ensures { KnownBranch profile usable depth innermost current f result }
+// Whether a token of a branch may read what is not written; els and eif read nothing.
+fn opens_unwritten(flow: Flow, current: Written, f: Fields) -> bool
+    ensures { result ≡ opens_unwritten flow current f }
 {
-    if !faults::is_lawful_branch(profile, usable, f) {
-        return Flow::Plain;
+    match flow {
+        Flow::Opener => quick::opener_may_read_unwritten(current, f),
+        Flow::Plain | Flow::Els | Flow::Eif => false,
     }
-    let els_met = innermost.els_met;
-    match opcodes::flow_of(f.opcode) {
-        Flow::Plain => Flow::Plain,
-        Flow::Opener => known_unless(
-            state::is_misplaced(Flow::Opener, depth, els_met)
-                | quick::opener_may_read_unwritten(current, f),
-            Flow::Opener,
-        ),
-        Flow::Els => known_unless(state::is_misplaced(Flow::Els, depth, els_met), Flow::Els),
-        Flow::Eif => known_unless(state::is_misplaced(Flow::Eif, depth, els_met), Flow::Eif),
-    }
-}
-
-fn known_unless(fault: bool, flow: Flow) -> Flow
-    ensures { result ≡ known_unless fault flow }
-{
-    if fault { Flow::Plain } else { flow }
 }

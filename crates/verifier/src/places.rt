@@ -11,6 +11,5 @@ pub(crate) fn fields_at(bytes: &[u8], token: usize) -> Fields
     ensures { result ≡ fields_of (token_at bytes.now token) }
 {
     let at = 7 + token * 24;
-    let end = at + 24;
-    bytecode::fields_of(&bytes[at..end])
+    bytecode::fields_of(&bytes[at..at + 24])
 }

@@ -3,95 +3,90 @@
 // every state and every number. Only what is known at a glance is stored by the check's loop itself: the set at hand after a run, and the
 // branch that an opener puts away.
 ghost use Rattle.std.specs.Prelude.{cond, ◌≡◌, ◌<◌};
-ghost use Rattle.layout.specs.Records.{destination_of};
-ghost use Rattle.verifier.specs.computed.State.{slot_of, slot_around, is_out_of_place, set_met, branch, with_fault, exchanged_state, closed_state, joined_state, met_state, entered_state, opened_state, parted_state, written_by, wrote_state};
+ghost use Rattle.verifier.specs.computed.State.{slot_of, slot_around, is_misplaced, set_met, with_fault, exchanged_state, closed_state, joined_state, met_state, entered_state, opened_state, parted_state, written_by, wrote_state};
 
 use bytecode::answers::Refusal;
-use components::written;
 use components::written::Written;
 use layout::opcodes::Flow;
 use layout::record::MaskedRegister;
 
-// An open branch: the set kept for the path that does not come by here, its opener's token number, and whether its els was met, 0 if not.
+// An open branch: the set kept for the path that does not come by here, its opener's token number, and whether its els was met.
 #[derive(Clone, Copy)]
 pub struct Branch {
     pub kept: Written,
     pub opener: u16,
-    pub els_met: u8,
+    pub els_met: bool,
 }
 
-// The innermost of the open branches stands by itself, since most tokens that change a branch change that one. The arrays have those around
-// it, the outermost first. A fault with number 0 is none.
+// The innermost of the open branches stands by itself, since most tokens that change a branch change that one. The array has those around
+// it, the outermost first. The fault is the first that was met.
 #[derive(Clone, Copy)]
 pub struct State {
     pub current: Written,
     pub innermost: Branch,
     pub depth: usize,
-    pub kept: [Written; 16],
-    pub openers: [u16; 16],
-    pub els_met: [u8; 16],
-    pub fault: Refusal,
+    pub around: [Branch; 16],
+    pub fault: Option<Refusal>,
 }
+
+const NO_BRANCH: Branch = Branch {
+    kept: Written::EMPTY,
+    opener: 0,
+    els_met: false,
+};
 
 // Before the first token nothing is written, no branch is open and there is no fault.
 pub const START: State = State {
-    current: Written { low: 0, high: 0 },
-    innermost: Branch {
-        kept: Written { low: 0, high: 0 },
-        opener: 0,
-        els_met: 0,
-    },
+    current: Written::EMPTY,
+    innermost: NO_BRANCH,
     depth: 0,
-    kept: [Written { low: 0, high: 0 }; 16],
-    openers: [0; 16],
-    els_met: [0; 16],
-    fault: bytecode::NO_REFUSAL,
+    around: [NO_BRANCH; 16],
+    fault: None,
 };
 
-// Where the innermost of so many open branches is put when another is opened in it. Every number has a place.
-pub(crate) fn slot(depth: usize) -> usize
-    ensures { (result ≡ slot_of depth) × (result < 16) }
-{
-    (depth % 16 + 15) % 16
-}
-
-// Where the branch around it stands.
-pub(crate) fn slot_around(depth: usize) -> usize
-    ensures { (result ≡ slot_around depth) × (result < 16) }
-{
-    (depth % 16 + 14) % 16
-}
-
-// Fault 20, by the number of open branches and whether the els of the innermost was met.
-pub(crate) fn is_misplaced(flow: Flow, depth: usize, els_met: u8) -> bool
-    ensures { result ≡ is_out_of_place flow depth els_met }
-{
-    match flow {
-        Flow::Plain => false,
-        Flow::Opener => 16 <= depth,
-        Flow::Els => (depth < 1) | (els_met != 0),
-        Flow::Eif => depth < 1,
-    }
-}
-
-// The set at hand as a token is met: els takes up the set that was kept, eif joins the sets of both blocks.
-pub(crate) fn set_met(flow: Flow, current: Written, kept: Written) -> Written
-    ensures { result ≡ set_met flow current kept }
-{
-    match flow {
-        Flow::Plain => current,
-        Flow::Opener => current,
-        Flow::Els => kept,
-        Flow::Eif => written::join(current, kept),
-    }
-}
-
 impl State {
+    // Where the innermost branch is put when another is opened in it. Every number of open branches has a place.
+    pub(crate) fn slot(&self) -> usize
+        ensures { (result ≡ slot_of self.now.depth) × (result < 16) }
+    {
+        (self.depth % 16 + 15) % 16
+    }
+
+    // Where the branch around it stands.
+    pub(crate) fn slot_around(&self) -> usize
+        ensures { (result ≡ slot_around self.now.depth) × (result < 16) }
+    {
+        (self.depth % 16 + 14) % 16
+    }
+
+    // Fault 20.
+    pub(crate) fn is_misplaced(&self, flow: Flow) -> bool
+        ensures { result ≡ is_misplaced self.now flow }
+    {
+        match flow {
+            Flow::Plain => false,
+            Flow::Opener => 16 <= self.depth,
+            Flow::Els => (self.depth < 1) | self.innermost.els_met,
+            Flow::Eif => self.depth < 1,
+        }
+    }
+
+    // The set at hand as a token is met: els takes up the set that was kept, eif joins the sets of both blocks.
+    pub(crate) fn set_met(&self, flow: Flow) -> Written
+        ensures { result ≡ set_met flow self.now.current self.now.innermost.kept }
+    {
+        match flow {
+            Flow::Plain | Flow::Opener => self.current,
+            Flow::Els => self.innermost.kept,
+            Flow::Eif => self.current.join(self.innermost.kept),
+        }
+    }
+
     // The same state with a fault.
     pub(crate) fn refused(mut self, fault: Refusal) -> State
         ensures { result ≡ with_fault self fault }
     {
-        self.fault = fault;
+        self.fault = Some(fault);
         self
     }
 
@@ -100,8 +95,7 @@ impl State {
         ensures { result ≡ met_state self flow }
     {
         match flow {
-            Flow::Plain => self,
-            Flow::Opener => self,
+            Flow::Plain | Flow::Opener => self,
             Flow::Els => self.exchanged(),
             Flow::Eif => self.joined(),
         }
@@ -111,16 +105,13 @@ impl State {
     pub(crate) fn exchanged(mut self) -> State
         ensures { result ≡ exchanged_state self }
     {
-        let current = written::by_halves(self.current);
-        let innermost = self.innermost;
-        let kept = written::by_halves(innermost.kept);
-        let in_second = Branch {
+        let current = self.current.by_halves();
+        self.current = self.innermost.kept.by_halves();
+        self.innermost = Branch {
             kept: current,
-            opener: innermost.opener,
-            els_met: 1,
+            opener: self.innermost.opener,
+            els_met: true,
         };
-        self.current = kept;
-        self.innermost = in_second;
         self
     }
 
@@ -128,30 +119,20 @@ impl State {
     pub(crate) fn joined(self) -> State
         ensures { result ≡ joined_state self }
     {
-        let place = slot_around(self.depth);
-        let kept = self.kept[place];
-        let opener = self.openers[place];
-        let els_met = self.els_met[place];
-        self.closed(kept, opener, els_met)
+        let around = self.around[self.slot_around()];
+        self.closed(around)
     }
 
     // The sets of both blocks are joined, and the branch around this one, which is handed in, is the innermost again.
-    pub(crate) fn closed(mut self, kept: Written, opener: u16, els_met: u8) -> State
-        ensures { result ≡ closed_state self (branch kept opener els_met) }
+    pub(crate) fn closed(mut self, around: Branch) -> State
+        ensures { result ≡ closed_state self around }
     {
-        let current = self.current;
-        let innermost = self.innermost;
-        let other = innermost.kept;
-        let both = written::join(current, other);
-        let kept = written::by_halves(kept);
-        let around = Branch {
-            kept,
-            opener,
-            els_met,
+        self.current = self.current.join(self.innermost.kept);
+        self.innermost = Branch {
+            kept: around.kept.by_halves(),
+            ..around
         };
-        self.current = both;
-        self.innermost = around;
-        self.depth = slot(self.depth);
+        self.depth = self.slot();
         self
     }
 
@@ -160,10 +141,8 @@ impl State {
         ensures { result ≡ parted_state self flow token }
     {
         match flow {
-            Flow::Plain => self,
             Flow::Opener => self.opened(token),
-            Flow::Els => self,
-            Flow::Eif => self,
+            Flow::Plain | Flow::Els | Flow::Eif => self,
         }
     }
 
@@ -171,12 +150,7 @@ impl State {
     pub(crate) fn opened(mut self, token: u16) -> State
         ensures { result ≡ opened_state self token }
     {
-        let place = slot(self.depth);
-        let innermost = self.innermost;
-        let kept = innermost.kept;
-        self.kept[place] = kept;
-        self.openers[place] = innermost.opener;
-        self.els_met[place] = innermost.els_met;
+        self.around[self.slot()] = self.innermost;
         self.entered(token)
     }
 
@@ -184,25 +158,21 @@ impl State {
     pub(crate) fn entered(mut self, token: u16) -> State
         ensures { result ≡ entered_state self token }
     {
-        let current = written::by_halves(self.current);
-        let opened = Branch {
-            kept: current,
+        self.innermost = Branch {
+            kept: self.current.by_halves(),
             opener: token,
-            els_met: 0,
+            els_met: false,
         };
-        self.innermost = opened;
         self.depth = self.depth % 16 + 1;
         self
     }
 
     // With the components that a token writes, where its destination is a temporary register.
-    pub(crate) fn wrote(mut self, used: bool, field: u64) -> State
-        ensures { result ≡ wrote_state self (destination_of used field) }
+    pub(crate) fn wrote(mut self, destination: Option<MaskedRegister>) -> State
+        ensures { result ≡ wrote_state self destination }
     {
-        if used {
-            let current = self.current;
-            let more = written_by(current, layout::unpack_register(field));
-            self.current = more;
+        if let Some(register) = destination {
+            self.current = written_by(self.current, register);
         }
         self
     }
@@ -213,7 +183,7 @@ pub(crate) fn written_by(current: Written, register: MaskedRegister) -> Written
     ensures { result ≡ written_by current register }
 {
     let mask = temporary_mask(register.kind == 2, register.mask);
-    written::mark(current, register.number, mask)
+    current.mark(register.number, mask)
 }
 
 fn temporary_mask(temporary: bool, mask: u8) -> u8

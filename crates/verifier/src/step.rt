@@ -1,81 +1,75 @@
 // One token: the state after it, with the token's first fault where it has one.
 ghost use Rattle.std.specs.Prelude.{◌≡◌};
-ghost use Rattle.layout.specs.Opcodes.{shape_of};
-ghost use Rattle.layout.specs.Records.{token_of};
-ghost use Rattle.verifier.specs.computed.Step.{fault_of_fields, fault_of_paths, step_of};
+ghost use Rattle.verifier.specs.computed.Step.{first_of, made_of, fault_of_fields, paths_fault, step_of};
 
-use crate::state;
-use crate::state::{Branch, State};
+use crate::state::State;
 use bytecode::answers::Refusal;
 use components::access;
-use components::written::Written;
+use components::access::Source;
 use faults::profile::Profile;
-use layout::fields::Fields;
+use layout::fields::{Fields, RawToken};
 use layout::opcodes;
-use layout::opcodes::{Flow, Shape};
 
 impl State {
-    // Judges one token, whose number is `token`, by its fields. Faults 9 to 19 come before those of branches and paths. A state that has a fault
-    // stays as it is: the first fault counts.
+    // Judges one token, whose number is `token`, by its fields. A state that has a fault stays as it is: the first fault counts.
+    #[tactic(auto, unfolding(crate::specs::computed::Step::step_of, crate::specs::computed::Step::follow_of, layout::specs::Records::token_of))]
     pub(crate) fn step(self, profile: Profile, token: u16, f: Fields) -> State
         ensures { result ≡ step_of self profile token f }
     {
-        let held = self.fault;
-        if held.number != 0 {
+        if self.fault.is_some() {
             return self;
         }
-        let shape = opcodes::shape_of(f.opcode);
-        let fault = fault_of_fields(profile, token, shape, f);
-        if fault.number != 0 {
-            return self.refused(fault);
+        let raw = RawToken::of(f);
+        match self.fault_of(profile, token, raw) {
+            Err(fault) => self.refused(fault),
+            Ok(()) => {
+                let flow = opcodes::flow_of(f.opcode);
+                self.met(flow)
+                    .wrote(layout::unpack_destination(raw.shape.destination, f.destination))
+                    .parted(flow, token)
+            }
         }
-        let flow = opcodes::flow_of(f.opcode);
-        let current = self.current;
-        let innermost = self.innermost;
-        let fault = fault_of_paths(flow, self.depth, innermost, current, token, shape, f);
-        if fault.number != 0 {
-            return self.refused(fault);
-        }
-        self.met(flow)
-            .wrote(shape.destination, f.destination)
-            .parted(flow, token)
     }
-}
 
-// 20 and 21, of what they ask of a state.
-fn fault_of_paths(
-    flow: Flow,
-    depth: usize,
-    innermost: Branch,
-    current: Written,
-    token: u16,
-    shape: Shape,
-    f: Fields,
-) -> Refusal
-    ensures { result ≡ fault_of_paths flow depth innermost current token (token_of shape f) }
-{
-    if state::is_misplaced(flow, depth, innermost.els_met) {
-        return bytecode::refusal(20, token as usize, 0);
+    // The first fault of a token: 9 to 19 come before those of branches and paths.
+    fn fault_of(&self, profile: Profile, token: u16, raw: RawToken) -> Result<(), Refusal>
+        ensures { result ≡ first_of (fault_of_fields profile token raw) (paths_fault self.now token (made_of raw)) }
+    {
+        fault_of_fields(profile, token, raw)?;
+        self.fault_of_paths(token, raw)
     }
-    let kept = innermost.kept;
-    let met = state::set_met(flow, current, kept);
-    if access::reads_unwritten1(met, shape, f) {
-        return bytecode::refusal(21, token as usize, 2);
+
+    // 20 and 21.
+    #[tactic(auto, unfolding(crate::specs::computed::Step::fault_of_paths, layout::specs::Records::token_of))]
+    fn fault_of_paths(&self, token: u16, raw: RawToken) -> Result<(), Refusal>
+        ensures { result ≡ paths_fault self.now token (made_of raw) }
+    {
+        let flow = opcodes::flow_of(raw.fields.opcode);
+        if self.is_misplaced(flow) {
+            return Err(bytecode::refusal(20, token as usize, 0));
+        }
+        let met = self.set_met(flow);
+        if access::reads_unwritten(met, raw, Source::First) {
+            return Err(bytecode::refusal(21, token as usize, 2));
+        }
+        if access::reads_unwritten(met, raw, Source::Second) {
+            return Err(bytecode::refusal(21, token as usize, 3));
+        }
+        Ok(())
     }
-    if access::reads_unwritten2(met, shape, f) {
-        return bytecode::refusal(21, token as usize, 3);
-    }
-    bytecode::refusal(0, 0, 0)
 }
 
 // The first of faults 9 to 19.
-fn fault_of_fields(profile: Profile, token: u16, shape: Shape, f: Fields) -> Refusal
-    requires { shape ≡ shape_of f.opcode }
-    ensures { result ≡ fault_of_fields profile token f }
+#[tactic(auto, using(bytecode::proofs::DecodeLaws::not_clean), unfolding(crate::specs::computed::Step::fault_of_fields))]
+fn fault_of_fields(profile: Profile, token: u16, raw: RawToken) -> Result<(), Refusal>
+    ensures { result ≡ fault_of_fields profile token raw }
 {
-    if bytecode::is_clean(shape, f) {
-        return faults::own_fault(profile, token as usize, shape, f);
+    if bytecode::is_clean(raw) {
+        return profile.own_fault(token as usize, raw);
     }
-    let refused = bytecode::fault_of(shape, f);
-    faults::undecoded_fault(profile, token as usize, refused, f.opcode)
+    bytecode::fault_of(raw).map_err(|fault| profile.undecoded_fault(
+        token as usize,
+        fault,
+        raw.fields.opcode,
+    ))
 }

@@ -12,7 +12,7 @@ use Rattle.report.specs.Depth.{opened_after}
 use Rattle.report.specs.Lines.{flow_in, Listable}
 use Rattle.report.specs.computed.Writers.{Listed, HasLines}
 
-decoded_set : IsSet Result Token Refusal
+decoded_set : IsSet (Result Token Refusal)
 decoded_set = hlevel (props, ⊎_set)
 
 Listable-prop : (stage : ℕ) (bytes : List ℕ) (n some opened : ℕ) → IsProp (Listable stage bytes n some opened)

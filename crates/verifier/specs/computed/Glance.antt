@@ -1,5 +1,5 @@
 -- What is known of a token that is passed at a glance: what its step makes of the state.
-use Rattle.std.specs.Prelude.{ℕ, ◌+◌, ◌*◌, ◌-◌, ◌≤◌, ◌<◌, Bool, true, false, List, ◌≡◌, length}
+use Rattle.std.specs.Prelude.{ℕ, ◌+◌, ◌*◌, ◌-◌, ◌≤◌, ◌<◌, Bool, true, false, List, ◌≡◌, length, Option, Some, None}
 use Rattle.layout.specs.Records.{register_of}
 use Rattle.layout.specs.declared.fields.Fields.{Fields}
 use Rattle.layout.specs.declared.opcodes.Flow.{Flow}
@@ -13,32 +13,29 @@ use Rattle.faults.specs.declared.profile.Profile.{Profile}
 use Rattle.verifier.specs.computed.State.{with_current, exchanged_state, joined_state, opened_state, written_by}
 use Rattle.verifier.specs.computed.Step.{step_of}
 use Rattle.verifier.specs.computed.Steps.{steps_over}
-use Rattle.verifier.specs.declared.glance.Passed.{Passed}
 use Rattle.verifier.specs.declared.glance.Run.{Run}
-use Rattle.verifier.specs.declared.state.Branch.{Branch}
 use Rattle.verifier.specs.declared.state.State.{State}
 
--- a token without a fault of its own, unless it may read what is not written
-abbrev pub passed_unless : Bool → Written → Fields → Passed
-passed_unless true current f = record { known = false; current = current }
-passed_unless false current f = record { known = true; current = written_by current (register_of f.destination) }
+-- the set after a token without a fault of its own, unless it may read what is not written
+abbrev pub passed_unless : Bool → Written → Fields → Option Written
+passed_unless true current f = None
+passed_unless false current f = Some (written_by current (register_of f.destination))
 
--- what holds of every state without a fault whose set at hand is this, under the profile of an edition and a stage and what is usable there
-abbrev pub Whenever : Profile → Usable → Written → (Profile → State → Type 0) → Type 0
-Whenever profile usable current Holds =
-    (edition stage : ℕ) → profile ≡ profile_of edition stage → usable ≡ usable_of profile
-    → (st : State) → st.fault.number ≡ 0 → st.current ≡ current → Holds (profile_of edition stage) st
+-- what holds of every state without a fault whose set at hand is this, under the profile that this is usable in
+abbrev pub Whenever : Usable → Written → (Profile → State → Type 0) → Type 0
+Whenever usable current Holds =
+    (edition stage : ℕ) → usable ≡ usable_of (profile_of edition stage)
+    → (st : State) → st.fault ≡ None → st.current ≡ current → Holds (profile_of edition stage) st
 
 -- the step of the token, wherever it stands and whatever branches are open, leaves this set and changes nothing else
-abbrev pub Passes : Profile → Usable → Written → Fields → Written → Type 0
-Passes profile usable current f next =
-    Whenever profile usable current (λ p st. (token : ℕ) → step_of st p token f ≡ with_current st next)
+abbrev pub Passes : Usable → Written → Fields → Written → Type 0
+Passes usable current f next = Whenever usable current (λ p st. (token : ℕ) → step_of st p token f ≡ with_current st next)
 
 -- so do the steps of all tokens of a run
-pub record RunsOver (profile : Profile) (usable : Usable) (current : Written) (bytes : List ℕ) (first count : ℕ) (r : Run) : Type 0 where
+pub record RunsOver (usable : Usable) (current : Written) (bytes : List ℕ) (first count : ℕ) (r : Run) : Type 0 where
   pub from : first ≤ r.token
   pub to : r.token ≤ count
-  pub steps : Whenever profile usable current (λ p st. steps_over p bytes st first (r.token - first) ≡ with_current st r.current)
+  pub steps : Whenever usable current (λ p st. steps_over p bytes st first (r.token - first) ≡ with_current st r.current)
 
 -- the token of a branch reads what is not written; els and eif read nothing
 abbrev pub opens_unwritten : Flow → Written → Fields → Bool
@@ -47,11 +44,6 @@ opens_unwritten Opener current f = opener_may_read_unwritten current f
 opens_unwritten Els current f = false
 opens_unwritten Eif current f = false
 
--- what a token does to branches, Plain where it may have a fault
-abbrev pub known_unless : Bool → Flow → Flow
-known_unless true flow = Plain
-known_unless false flow = flow
-
 -- what the token of a branch makes of a state
 abbrev pub branch_step : Flow → State → ℕ → State → Type 0
 branch_step Plain st token next = Unit {0}
@@ -59,15 +51,15 @@ branch_step Opener st token next = next ≡ opened_state st token
 branch_step Els st token next = next ≡ exchanged_state st
 branch_step Eif st token next = next ≡ joined_state st
 
--- the step of a token of a branch, where so many branches are open and this is the innermost
-abbrev pub KnownBranch : Profile → Usable → ℕ → Branch → Written → Fields → Flow → Type 0
-KnownBranch profile usable depth innermost current f flow =
-    Whenever profile usable current
-    (λ p st. st.depth ≡ depth → st.innermost ≡ innermost → (token : ℕ) → branch_step flow st token (step_of st p token f))
+-- the step of a token of a branch from this state, wherever it stands, where the state has no fault
+abbrev pub KnownBranch : Usable → State → Fields → Flow → Type 0
+KnownBranch usable st f flow =
+    (edition stage : ℕ) → usable ≡ usable_of (profile_of edition stage)
+    → st.fault ≡ None → (token : ℕ) → branch_step flow st token (step_of st (profile_of edition stage) token f)
 
--- what the tokens are judged with: a profile, what is usable in it, and so many tokens as there are at least and as can be counted
-pub record CanJudge (profile : Profile) (usable : Usable) (bytes : List ℕ) (count : ℕ) : Type 0 where
-  pub made : profile ≡ profile_of profile.edition profile.stage
-  pub used : usable ≡ usable_of profile
+-- what the tokens are judged with: what is usable in an edition and a stage, and so many tokens as there are at least and as can be counted
+pub record CanJudge (usable : Usable) (bytes : List ℕ) (count : ℕ) : Type 0 where
+  pub made : usable.profile ≡ profile_of usable.profile.edition usable.profile.stage
+  pub used : usable ≡ usable_of usable.profile
   pub there : 7 + count * 24 ≤ length bytes
   pub few : count < 65536

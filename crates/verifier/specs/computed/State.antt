@@ -1,7 +1,6 @@
 -- The state that the code keeps, and what a token makes of it. Nobody has to believe these: what the check answers is stated over rules and
 -- paths (Exact).
-use Rattle.std.specs.Prelude.{ℕ, ◌+◌, ◌%◌, Bool, false, cond, not, ◌||◌, eqb, ltb, leb, get_or, set, replicate, None, Option, Some}
-use Rattle.bytecode.specs.Decode.{no_refusal}
+use Rattle.std.specs.Prelude.{ℕ, ◌+◌, ◌%◌, Bool, true, false, cond, ◌||◌, eqb, ltb, leb, get_or, set, replicate, Option, Some, None}
 use Rattle.bytecode.specs.declared.answers.Refusal.{Refusal}
 use Rattle.components.specs.computed.Written.{join_of, mark_of}
 use Rattle.components.specs.declared.written.Written.{Written}
@@ -14,19 +13,20 @@ use Rattle.verifier.specs.declared.state.State.{State}
 abbrev pub none_written : Written
 none_written = record { low = 0; high = 0 }
 
-abbrev pub branch : Written → ℕ → ℕ → Branch
+abbrev pub branch : Written → ℕ → Bool → Branch
 branch kept opener els_met = record { kept = kept; opener = opener; els_met = els_met }
+
+abbrev pub no_branch : Branch
+no_branch = branch none_written 0 false
 
 abbrev pub start_state : State
 start_state =
     record {
       current = none_written;
-      innermost = branch none_written 0 0;
+      innermost = no_branch;
       depth = 0;
-      kept = replicate 16 none_written;
-      openers = replicate 16 0;
-      els_met = replicate 16 0;
-      fault = no_refusal;
+      around = replicate 16 no_branch;
+      fault = None;
     }
 
 -- where the innermost of so many open branches is put when another is opened in it
@@ -37,15 +37,15 @@ slot_of depth = (depth % 16 + 15) % 16
 abbrev pub slot_around : ℕ → ℕ
 slot_around depth = (depth % 16 + 14) % 16
 
--- the branch at a place of the arrays
+-- the branch at a place of the array
 abbrev pub branch_at : State → ℕ → Branch
-branch_at st i = branch (get_or st.kept i none_written) (get_or st.openers i 0) (get_or st.els_met i 0)
+branch_at st i = get_or st.around i no_branch
 
 -- 20
-abbrev pub is_out_of_place : Flow → ℕ → ℕ → Bool
+abbrev pub is_out_of_place : Flow → ℕ → Bool → Bool
 is_out_of_place Plain depth els_met = false
 is_out_of_place Opener depth els_met = leb 16 depth
-is_out_of_place Els depth els_met = ltb depth 1 || not (eqb els_met 0)
+is_out_of_place Els depth els_met = ltb depth 1 || els_met
 is_out_of_place Eif depth els_met = ltb depth 1
 
 abbrev pub is_misplaced : State → Flow → Bool
@@ -60,36 +60,18 @@ set_met Eif current kept = join_of current kept
 
 -- a state by what a token changes in it: the set at hand, the innermost branch and how many are open
 abbrev pub changed : State → Written → Branch → ℕ → State
-changed st current innermost depth =
-    record {
-      current = current;
-      innermost = innermost;
-      depth = depth;
-      kept = st.kept;
-      openers = st.openers;
-      els_met = st.els_met;
-      fault = st.fault;
-    }
+changed st current innermost depth = record st { current = current; innermost = innermost; depth = depth }
 
 -- another set at hand
 abbrev pub with_current : State → Written → State
-with_current st w = changed st w st.innermost st.depth
+with_current st w = record st { current = w }
 
 abbrev pub with_fault : State → Refusal → State
-with_fault st fault =
-    record {
-      current = st.current;
-      innermost = st.innermost;
-      depth = st.depth;
-      kept = st.kept;
-      openers = st.openers;
-      els_met = st.els_met;
-      fault = fault;
-    }
+with_fault st fault = record st { fault = Some fault }
 
 -- els exchanges the set at hand with the kept one
 abbrev pub exchanged_state : State → State
-exchanged_state st = changed st st.innermost.kept (branch st.current st.innermost.opener 1) st.depth
+exchanged_state st = changed st st.innermost.kept (branch st.current st.innermost.opener true) st.depth
 
 -- eif joins the two and closes the branch: the one around it is the innermost again
 abbrev pub closed_state : State → Branch → State
@@ -106,20 +88,11 @@ met_state st Eif = joined_state st
 
 -- an opener puts away the branch that was innermost
 abbrev pub put_away_state : State → State
-put_away_state st =
-    record {
-      current = st.current;
-      innermost = st.innermost;
-      depth = st.depth;
-      kept = set st.kept (slot_of st.depth) st.innermost.kept;
-      openers = set st.openers (slot_of st.depth) st.innermost.opener;
-      els_met = set st.els_met (slot_of st.depth) st.innermost.els_met;
-      fault = st.fault;
-    }
+put_away_state st = record st { around = set st.around (slot_of st.depth) st.innermost }
 
 -- and keeps the set at hand for the other side
 abbrev pub entered_state : State → ℕ → State
-entered_state st n = changed st st.current (branch st.current n 0) (st.depth % 16 + 1)
+entered_state st n = changed st st.current (branch st.current n false) (st.depth % 16 + 1)
 
 abbrev pub opened_state : State → ℕ → State
 opened_state st n = entered_state (put_away_state st) n

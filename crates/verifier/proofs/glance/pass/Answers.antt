@@ -8,29 +8,23 @@ use Rattle.verifier.proofs.glance.pass.Goals as goal
 
 pub returns-then-is_lawful_indexed : goal.returns-then-is_lawful_indexed
 returns-then-is_lawful_indexed c =
-    let a = c.args in
-    passes_by a.f (λ p u. is_lawful_indexed u a.f) indexed_may_read_unwritten (λ edition stage. lawful_indexed edition stage a.f) a.profile a.usable
-    _ c.is_lawful_indexed.ensures.0 c.if-is_lawful_indexed.true a.current _ c.indexed_may_read_unwritten.ensures.0 _ c.passed_unless.ensures
+    rw c.passed_unless.ensures (passes_by c.args.f (λ u. is_lawful_indexed u c.args.f) indexed_may_read_unwritten (λ edition stage. lawful_indexed edition stage c.args.f)
+    _ _ c.is_lawful_indexed.ensures.answer c.if-is_lawful_indexed.true _ _ c.indexed_may_read_unwritten.ensures.0)
 
 pub returns-then-is_lawful : goal.returns-then-is_lawful
 returns-then-is_lawful c =
-    let a = c.args in
-    passes_by a.f (λ p u. is_lawful u a.f) may_read_unwritten (λ edition stage. lawful edition stage a.f) a.profile a.usable
-    _ c.is_lawful.ensures.0 c.if-is_lawful.true a.current _ c.may_read_unwritten.ensures.0 _ c.passed_unless-then-is_lawful.ensures
+    rw c.passed_unless-then-is_lawful.ensures (passes_by c.args.f (λ u. is_lawful u c.args.f) may_read_unwritten (λ edition stage. lawful edition stage c.args.f)
+    _ _ c.is_lawful.ensures.answer c.if-is_lawful.true _ _ c.may_read_unwritten.ensures.0)
 
 pub returns-then-is_lawful_matrix : goal.returns-then-is_lawful_matrix
 returns-then-is_lawful_matrix c =
-    let a = c.args in
-    passes_by a.f (λ p u. is_lawful_matrix u a.f) matrix_may_read_unwritten (λ edition stage. lawful_matrix edition stage a.f) a.profile a.usable
-    _ c.is_lawful_matrix.ensures.0 c.if-is_lawful_matrix.true a.current _ c.matrix_may_read_unwritten.ensures.0 _ c.passed_unless-then-is_lawful_matrix.ensures
+    rw c.passed_unless-then-is_lawful_matrix.ensures (passes_by c.args.f (λ u. is_lawful_matrix u c.args.f) matrix_may_read_unwritten (λ edition stage. lawful_matrix edition stage c.args.f)
+    _ _ c.is_lawful_matrix.ensures.answer c.if-is_lawful_matrix.true _ _ c.matrix_may_read_unwritten.ensures.0)
 
 pub returns-then-is_lawful_tex : goal.returns-then-is_lawful_tex
 returns-then-is_lawful_tex c =
-    let a = c.args in
-    passes_by a.f (λ p u. is_lawful_tex p u a.f) tex_may_read_unwritten (λ edition stage. lawful_tex edition stage a.f) a.profile a.usable
-    _ c.is_lawful_tex.ensures.0 c.if-is_lawful_tex.true a.current _ c.tex_may_read_unwritten.ensures.0 _ c.passed_unless-then-is_lawful_tex.ensures
+    rw c.passed_unless-then-is_lawful_tex.ensures (passes_by c.args.f (λ u. is_lawful_tex u c.args.f) tex_may_read_unwritten (λ edition stage. lawful_tex edition stage c.args.f)
+    _ _ c.is_lawful_tex.ensures.answer c.if-is_lawful_tex.true _ _ c.tex_may_read_unwritten.ensures.0)
 
 pub returns-then-is_lawful_kil : goal.returns-then-is_lawful_kil
-returns-then-is_lawful_kil c =
-    let a = c.args in
-    passes_kil a.profile a.usable a.f _ c.is_lawful_kil.ensures.0 c.if-is_lawful_kil.true a.current _ c.kil_may_read_unwritten.ensures.0
+returns-then-is_lawful_kil c = rw c.then_some.ensures (passes_kil _ _ _ c.is_lawful_kil.ensures.answer c.if-is_lawful_kil.true _ _ c.kil_may_read_unwritten.ensures.0)

@@ -1,4 +1,4 @@
-use Rattle.std.proofs.Common.{◌-◌, ◌≡◌, ◌≤◌}
+use Rattle.std.proofs.Common.{◌-◌, ◌≡◌}
 use Rattle.verifier.specs.computed.Glance.{Whenever}
 use Rattle.verifier.specs.computed.State.{with_current}
 use Rattle.verifier.specs.computed.Steps.{steps_over}
@@ -6,12 +6,5 @@ use Rattle.verifier.proofs.glance.pass_tokens.Given as goal
 
 abbrev pub invariant-loop-token : goal.invariant-loop-token
 invariant-loop-token l =
-    record {
-      onward : l.first ≤ l.token;
-      within : l.token ≤ l.count;
-      steps : Whenever l.profile l.usable l.initial.current
-          (λ p st. steps_over p l.bytes st l.first (l.token - l.first) ≡ with_current st l.current);
-    }
-
-abbrev pub decreases-loop-token : goal.decreases-loop-token
-decreases-loop-token l = l.count - l.token
+    Whenever l.usable l.initial.current
+    (λ p st. steps_over p l.bytes st l.first (l.token - l.first) ≡ with_current st l.current)
