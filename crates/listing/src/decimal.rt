@@ -30,6 +30,7 @@ impl Writer<'_> {
     }
 
     // Any number of at most `most` digits: those of its tenth, then the last one. Only a token's number in a refusal may be so large.
+    // It calls itself, since the last digit is found first: a loop needs a buffer for the digits, or a falling power of ten and an invariant.
     pub(crate) fn long(&mut self, n: usize, most: usize)
         requires n_bound { n < 10 ^ most }
         requires room { HasRoom most self.old }

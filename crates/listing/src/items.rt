@@ -15,7 +15,7 @@ impl Writer<'_> {
         ensures { Writes (indentation depth) 32 self.old self.new }
     {
         let spaces = [b' '; 32];
-        self.bytes(&spaces[..2 * depth as usize]);
+        self.copied(&spaces[..2 * depth as usize]);
     }
 
     #[inline(always)]
@@ -27,6 +27,7 @@ impl Writer<'_> {
         self.decimal(number);
     }
 
+    // A line for each of the four components: a loop over them is as long and needs an invariant. So it is in `swizzle`.
     #[inline(always)]
     pub(crate) fn mask(&mut self, mask: u8)
         requires { HasRoom 5 self.old }

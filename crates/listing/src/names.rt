@@ -7,7 +7,8 @@ ghost use Rattle.listing.specs.computed.Writers.{HasRoom, Writes, stage_number};
 use crate::stage::Stage;
 use crate::text::Writer;
 
-// By opcode, three letters each, from mov, 00, to sne, 2d; dots where no opcode is listed.
+// By opcode, three letters each, from mov, 00, to sne, 2d; dots where no opcode is listed. A table of letters says this in one
+// line, where a match of the 40 names has a line for each.
 const OPCODES: [u8; 138] =
     *b"movaddsubmuldivrcpminmaxfrcsqtrsqpowlogexpnrmsincoscrsdp3dp4absnegsatm33m44m34ddxddyifeineifgiflelseif...............kiltexsgeslt...seqsne";
 

@@ -13,6 +13,6 @@ pub(crate) fn print(text: &[u8], out: &mut [u8]) -> Result<usize, Refusal>
         return Err(bytecode::refusal(23, 0, 0));
     }
     let mut w = Writer::new(out);
-    w.bytes(text);
+    w.copied(text);
     Ok(w.length())
 }

@@ -1,7 +1,7 @@
 // A text that grows in a lent buffer.
-ghost use Rattle.std.specs.Prelude.{◌≡◌, [], ◌∷◌, length};
+ghost use Rattle.std.specs.Prelude.{◌≡◌, [], ◌∷◌, ◌+◌, ◌≤◌, length};
 ghost use Rattle.listing.specs.Text.{when};
-ghost use Rattle.listing.specs.computed.Writers.{HasRoom, Writes};
+ghost use Rattle.listing.specs.computed.Writers.{Appends, HasRoom, Writes};
 
 // Each method appends an item at `at`. What stands before and after the item stays. Those that a token's line needs are inlined, so that the
 // place stays in a register: with calls between them the listing of a token takes a third more instructions.
@@ -58,4 +58,26 @@ impl<'a> Writer<'a> {
             self.byte(*byte);
         }
     }
+
+    // The same for bytes that stand in an array on the stack.
+    #[inline(always)]
+    pub(crate) fn copied(&mut self, bytes: &[u8])
+        requires { HasRoom (length bytes.now) self.old }
+        ensures { Writes bytes.now (length bytes.now) self.old self.new }
+    {
+        self.at = put_bytes(self.out, self.at, bytes);
+    }
+}
+
+// Not inlined: beside such an array the loop is compiled to a call of memcpy, since the array and the buffer cannot overlap, and in the first
+// call the loader takes 3 KB of stack to find memcpy. The buffer and the place are passed by value, so that a writer stays in registers: with a
+// method that is not inlined the listing of a token takes an eighth more instructions.
+#[inline(never)]
+fn put_bytes(out: &mut [u8], at: usize, bytes: &[u8]) -> usize
+    requires { at + length bytes.now ≤ length out.old }
+    ensures { Appends bytes.now (length bytes.now) at out.old out.new result }
+{
+    let mut w = Writer { out, at };
+    w.bytes(bytes);
+    w.at
 }

@@ -10,4 +10,4 @@ returns-then-out-text c = rw c.refusal.ensures (too_short _ _ c.if-out-text.true
 pub returns : goal.returns
 returns c =
     let w = c.new-w.ensures in
-    (printed (from_start c.bytes.ensures w.holds w.start (search rules) c.length.ensures) c.if-out-text.false (search rules)).0
+    (printed (from_start c.copied.ensures w.holds w.start (search rules) c.length.ensures) c.if-out-text.false (search rules)).0

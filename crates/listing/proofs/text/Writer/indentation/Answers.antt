@@ -14,4 +14,4 @@ pub returns : goal.returns
 returns c =
     let width = 2 * c.args.depth in
     let narrow : width ≤ 32 = search rules in
-    rw (← take-replicate width 32 32 narrow) (at_most 32 (rw (length-take-le width spaces narrow) narrow) c.bytes.ensures)
+    rw (← take-replicate width 32 32 narrow) (at_most 32 (rw (length-take-le width spaces narrow) narrow) c.copied.ensures)
