@@ -76,6 +76,8 @@ pub(crate) const OPENERS: u64 = (1 << (IFL + 1)) - (1 << IFE);
 
 const FRAGMENT_ONLY: u64 = 1 << KIL | 1 << TEX;
 
+const THREE_WIDE: u64 = 1 << NRM | 1 << CRS | 1 << M33 | 1 << M34;
+
 const MATRICES: u64 = 1 << M33 | 1 << M44 | 1 << M34;
 
 // All with a destination but matrices and those that only fragment programs have: one or two sources of one register, in every stage, and no
@@ -184,7 +186,7 @@ pub fn is_fragment_only(opcode: u32) -> bool
 pub fn is_three_wide(opcode: u32) -> bool
     ensures { result ≡ is_three_wide opcode }
 {
-    matches!(opcode, NRM | CRS | M33 | M34)
+    among(THREE_WIDE, opcode)
 }
 
 pub fn is_matrix(opcode: u32) -> bool
