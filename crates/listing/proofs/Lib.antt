@@ -6,4 +6,5 @@ pub mod NameLaws
 pub mod Notation
 pub mod OperandLaws
 pub mod PrintLaws
+pub mod RefusalText
 pub mod Writing
