@@ -1,6 +1,6 @@
 -- What a read answers, from the number of bytes left, and where it leaves the reader.
 -- Assumes nothing.
-use Rattle.std.specs.Prelude.{Err, Ok, Result, ⊤}
+use Rattle.std.specs.Prelude.{Err, Ok, Result, ⊤, MatchResult, IsErrAnd}
 use Prim.Native.Nat.{ℕ, ◌+◌, ◌<◌, ◌≤◌}
 use mathlib.Core.Bool.{Bool, true, false, not, cond}
 use mathlib.Core.List.{List, []}
@@ -127,9 +127,15 @@ module _ (s : List ℕ) (n : ℕ) where
   unfolding place_after
   stays r e = ap (place_from n) e
 
-  -- so what decode answers of them tells what a read does
-  pub reads_decoded : {bytes : List ℕ} {d e : Result Token Refusal} → bytes ≡ token_bytes s n → d ≡ decode_of bytes → d ≡ e → ReadsAt s n (stands_at n e)
+  reads_decoded : {bytes : List ℕ} {d e : Result Token Refusal} → bytes ≡ token_bytes s n → d ≡ decode_of bytes → d ≡ e → ReadsAt s n (stands_at n e)
   reads_decoded b p q = rw (← q, p, b) reads_bytes
+
+  -- so what decode answers of them tells what a read does, where a refusal is given this place
+  pub reads_placed : {bytes : List ℕ} {P : Refusal → Refusal → Type 0} (d r : Result Token Refusal) → bytes ≡ token_bytes s n → d ≡ decode_of bytes
+      → MatchResult d (λ t. r ≡ Ok t) (λ e. IsErrAnd r (P e)) → ((e f : Refusal) → P e f → f ≡ fault_at n e) → ReadsAt s n r
+  reads_placed (Ok t) r b p m placed = rw m (reads_decoded b p refl)
+  reads_placed (Err e) (Ok t) b p m placed = absurd m
+  reads_placed (Err e) (Err f) b p m placed = rw (placed e f m) (reads_decoded b p refl)
 
 -- a reader is left where its answer says
 pub reads_on : (reader : TokenReader) {d : Result Token Refusal} {place : ℕ} → ReadsAt reader.program.now reader.place d → place ≡ place_from reader.place d

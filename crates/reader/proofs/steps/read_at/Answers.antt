@@ -1,10 +1,8 @@
--- The goals of `read_at` that the check leaves.
-use Rattle.reader.proofs.ReadingLaws.{reads_decoded}
+-- The goal of `read_at` that the check leaves.
+use Rattle.std.proofs.Common.{rules}
+use Rattle.reader.proofs.ReadingLaws.{reads_placed}
 use Rattle.reader.proofs.steps.read_at.Goals as goal
 
-pub returns-in-Ok : goal.returns-in-Ok
-returns-in-Ok c = reads_decoded c.args.program.now c.args.token c.token_bytes.ensures c.decode.ensures.answer c.in-Ok.is
-
-pub returns-in-Err : goal.returns-in-Err
-returns-in-Err c =
-    rw c.refusal.ensures (reads_decoded c.args.program.now c.args.token c.token_bytes.ensures c.decode.ensures.answer c.in-Err.is)
+pub returns : goal.returns
+returns c =
+    reads_placed c.args.program.now c.args.token _ _ c.token_bytes.ensures c.decode.ensures.answer c.map_err.ensures.cases (search rules)
