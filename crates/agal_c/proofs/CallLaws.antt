@@ -39,7 +39,7 @@ module _ (s : List ℕ) (whole : length s ≡ 24) {f : Fields} (ef : f ≡ field
   unfolding fields_in
   its_fields = ap (λ r. r.fields) er ∙ ef ∙ rw (le-ltb (length s) 24 (omega arith))
 
-  its_shape : raw.shape ≡ shape_of (fields_of s).opcode
+  pub its_shape : raw.shape ≡ shape_of (fields_of s).opcode
   its_shape = ap (λ r. r.shape) er ∙ ap (λ r. shape_of r.fields.opcode) (sym er) ∙ ap (λ g. shape_of g.opcode) its_fields
 
   -- the opcode is the only field that is looked at outright

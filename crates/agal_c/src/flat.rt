@@ -2,7 +2,9 @@
 // have their lowest byte first.
 ghost use Rattle.std.specs.Prelude.{◌+◌, ◌*◌, ◌≤◌, ◌≡◌, true, false, cond, ◌++◌, length, drop, IfNone, IfSome, Err};
 ghost use Rattle.layout.specs.Layout.{source_rows, defined_bits, destination_bits, operand_bits, is_stray};
+ghost use Rattle.layout.specs.Opcodes.{shape_of};
 ghost use Rattle.layout.specs.Records.{destination_of, operand_of, token_of};
+ghost use Rattle.bytecode.specs.Fields.{fields_of};
 ghost use Rattle.bytecode.specs.Decode.{refusal, decode_of};
 ghost use Rattle.bytecode.specs.computed.CleanFields.{is_clean};
 ghost use Rattle.bytecode.specs.computed.Stored.{with_bytes};
@@ -22,6 +24,7 @@ use layout::record::Token;
 pub(crate) fn outright_fault(token: &[u8]) -> Option<u8>
     ensures whole { IfNone result (length token.now ≡ 24) }
     ensures told { IfSome result (λ fault. decode_of token.now ≡ Err (refusal fault 0 0)) }
+    ensures listed { IfNone result ((shape_of (fields_of token.now).opcode).listed ≡ true) }
 {
     if token.len() != 24 {
         return Some(24);

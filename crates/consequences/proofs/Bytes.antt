@@ -17,7 +17,6 @@ use Rattle.registers.proofs.Growth.{growth}
 use Rattle.listing.specs.Decimal.{said_after}
 use Rattle.listing.proofs.Notation.{is_decimal, unique}
 use Rattle.agal_c.specs.Flat.{token_of_flat}
-use Rattle.agal_c.specs.Calls.{encode_answer, after_flat_encode}
 use Rattle.agal_c.proofs.ReadBack.{read_back}
 use Rattle.consequences.specs.Bytes.{SameBytes, SameRecord, CopiesDecode, SameFlat, FlatEncodes, KeepsRegisters, ReadsDecimal}
 

@@ -15,7 +15,7 @@ use Rattle.layout.specs.declared.record.Operand.{Operand}
 use Rattle.layout.specs.declared.record.Operand.TheVariants.{Unused as NoOperand, Direct, Indexed, Sampler as Sampled}
 use Rattle.layout.specs.declared.record.Token.{Token}
 use Rattle.laws.proofs.Every.{both}
-use Rattle.listing.specs.Line.{is_nameable}
+use Rattle.listing.specs.Line.{is_nameable, destination_has_names, operand_has_names}
 use Rattle.listing.specs.computed.Writers.{operand_room, Nameable}
 
 -- ---- room
@@ -94,3 +94,11 @@ module _ (t : Token) (stage depth : ℕ) (e : is_nameable t stage depth ≡ true
         depth = leb-true depth 16 deep.1;
         room = omega (arith, fits_room shape.source1 t.source1 fits1.1, fits_room shape.source2 t.source2 fits2.1, roomy.0, roomy.1);
       }
+
+  -- all that it names has a name
+  pub named : (destination_has_names t.destination ≡ true) × (operand_has_names t.source1 ≡ true) × (operand_has_names t.source2 ≡ true)
+  unfolding is_nameable
+  named =
+      let second = both _ _ e in
+      let first = both _ _ second.0 in
+      ((both _ _ first.0).1, first.1, second.1)

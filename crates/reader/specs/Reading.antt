@@ -1,5 +1,5 @@
 -- Document 01, "Token reader": what opening and each read answer, and where they leave the reader.
-use Rattle.std.specs.Prelude.{ℕ, ◌+◌, cond, List, ◌≡◌, ltb, eqb, length, Err, Ok, Result, ⊤}
+use Rattle.std.specs.Prelude.{ℕ, ◌+◌, cond, List, ◌≡◌, ltb, length, Err, Ok, Result, ⊤}
 use Rattle.std.specs.Borrow.{Bor}
 use Rattle.bytecode.specs.Decode.{refusal, no_refusal, outcome, decode_fault, decode_of}
 use Rattle.bytecode.specs.Numbers.{Numbers, accepted_numbers, refusal_numbers, found_numbers, decoded_numbers}

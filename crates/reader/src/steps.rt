@@ -28,6 +28,7 @@ pub fn token_bytes(program: &[u8], token: usize) -> &[u8]
 pub fn read_at(program: &[u8], token: usize) -> Result<Token, Refusal>
     ensures { ReadsAt program.now token result }
 {
-    bytecode::decode(token_bytes(program, token))
-        .map_err(|r| bytecode::refusal(r.number, token, r.part))
+    bytecode::decode(token_bytes(program, token)).map_err(|r| bytecode::refusal(
+        r.number, token, r.part,
+    ))
 }
