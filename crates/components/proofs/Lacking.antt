@@ -1,11 +1,10 @@
 -- What `lacks` answers, as the code finds it: register by register.
 -- Assumes nothing.
-use Prim.Native.Nat.{ℕ, zero, suc, ◌*◌, ◌/◌, ◌%◌, ◌^◌}
+use Prim.Native.Nat.{ℕ, zero, suc, ◌+◌, ◌-◌, ◌*◌, ◌/◌, ◌%◌, ◌^◌, ◌<◌, ◌≤◌}
 use mathlib.Core.Bool.{false, ◌||◌}
-use mathlib.Core.Path.{◌≡◌, refl, sym, ap, ◌∙◌}
+use mathlib.Core.Path.{◌≡◌, refl, sym, ◌∙◌}
 use native.Mathlib.Numerals.{add-one}
 use native.Mathlib.Omega.{arith}
-use Rattle.std.specs.List.{list_any, range_with_len}
 use Rattle.std.proofs.lemmas.Bool.{or_parts}
 use Rattle.paths.specs.computed.Check.{lacks}
 use Rattle.layout.specs.Swizzles.{mask_components}
@@ -32,11 +31,15 @@ lacks_more : (s : Written) (r n m : ℕ) → lacks_of s r (suc n) m ≡ (lacks_r
 unfolding lacks_of
 lacks_more s r n m = lacks_rows (component_set s) r n (mask_components m) ∙ rw (lacks_register s r m)
 
--- some of the registers lacks a component
-pub lacks_each : (s : Written) (r n m : ℕ) → list_any (λ row. lacks_row s row m) (range_with_len r n) ≡ lacks_of s r n m
+-- the first of the registers up to one, and the others
+pub lacks_first : (s : Written) (r e m : ℕ) → r < e → lacks_of s r (e - r) m ≡ (lacks_row s r m || lacks_of s (r + 1) (e - (r + 1)) m)
+lacks_first s r e m h =
+    let k : e - r ≡ suc (e - (r + 1)) = omega arith in
+    rw (k, add-one r) (lacks_more s r (e - suc r) m)
+
+pub lacks_none : (s : Written) (r e m : ℕ) → e ≤ r → lacks_of s r (e - r) m ≡ false
 unfolding lacks_of
-lacks_each s r zero m = refl
-lacks_each s r (suc n) m = rw (lacks_more s r n m, add-one r) (ap (λ b. lacks_row s r m || b) (lacks_each s (suc r) n m))
+lacks_none s r e m h = let k : e - r ≡ 0 = omega arith in rw k
 
 -- registers that have all four components lack none, whatever is read
 pub lacks_nothing : (s : Written) (r n m : ℕ) → lacks_of s r n 15 ≡ false → lacks_of s r n m ≡ false

@@ -47,12 +47,18 @@ impl Written {
         }
     }
 
-    // Whether one of `rows` registers, from `register` on, lacks one of the components.
+    // Whether one of `rows` registers, from `register` on, lacks one of the components. By `any` the check takes 2 instructions a token more.
     pub fn lacks(self, register: u16, rows: u8, components: u8) -> bool
         ensures { result ≡ lacks_of self register rows components }
     {
         let first = register as u32;
-        (first..first + rows as u32).any(|row| self.lacks_row(row, components))
+        let end = first + rows as u32;
+        for row in first..end {
+            if self.lacks_row(row, components) {
+                return true;
+            }
+        }
+        false
     }
 
     // Whether a register lacks one of the components.

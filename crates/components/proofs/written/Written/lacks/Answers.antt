@@ -1,15 +1,16 @@
 -- The goals of `lacks` that the check leaves.
-use Rattle.std.proofs.Common.{◌+◌, ◌∙◌, rules, tests, arith}
-use Rattle.std.proofs.lemmas.Iterator.{YieldsList-from_range}
-use Rattle.std.proofs.lemmas.Iterator.Search.{any_from_yields_List}
-use Rattle.components.specs.computed.Written.{lacks_row}
-use Rattle.components.proofs.Lacking.{lacks_each}
+use mathlib.Core.Path.{sym, ◌∙◌}
+use native.Mathlib.Omega.{arith}
+use Rattle.components.proofs.Lacking.{lacks_first, lacks_none}
 use Rattle.components.proofs.written.Written.lacks.Goals as goal
 
+pub returns-then-lacks_row : goal.returns-then-lacks_row
+returns-then-lacks_row c =
+    rw (← c.loop-row.invariant, lacks_first _ _ _ _ c.loop-row-test.true, ← c.lacks_row.ensures, c.if-lacks_row.true)
+
+pub loop-row-preserved : goal.loop-row-preserved
+loop-row-preserved c =
+    rw (← c.loop-row.invariant, lacks_first _ _ _ _ c.loop-row-test.true, ← c.lacks_row.ensures, c.if-lacks_row.false)
+
 pub returns : goal.returns
-returns c =
-    let a = c.args in
-    any_from_yields_List (λ row. lacks_row a.self row a.components) _ _ c.any.result c.any.ensures.ran
-    (YieldsList-from_range a.register (a.register + a.rows) a.rows (search rules) (omega arith))
-    (λ x b q k. search (rules, tests))
-    ∙ lacks_each a.self a.register a.rows a.components
+returns c = sym (lacks_none _ _ _ _ (omega arith)) ∙ c.loop-row.invariant
