@@ -63,7 +63,8 @@ impl Answer {
     }
 }
 
-// Of a program its stage and token count.
+// Three impls, each with a definition of its own: a generic one would need a trait for what Ok holds, which is all that they differ in. Of a program
+// its stage and token count.
 impl From<Result<Program, Refusal>> for Answer {
     ghost use Rattle.agal_c.specs.Calls.{check_answer};
 

@@ -20,7 +20,7 @@ use layout::opcodes::OperandShape;
 use layout::record::Token;
 
 // The fault that is told before any field but the opcode is looked into: 24 where the bytes are no whole token, 9 where the opcode is not
-// listed. It is small enough to be compiled into its callers, so that such bytes cost no further call.
+// listed. A number alone, as a refusal has it: neither has a part, and the place is the caller's. It is small enough to be compiled into its callers, so that such bytes cost no further call.
 pub(crate) fn outright_fault(token: &[u8]) -> Option<u8>
     ensures whole { IfNone result (length token.now ≡ 24) }
     ensures told { IfSome result (λ fault. decode_of token.now ≡ Err (refusal fault 0 0)) }
@@ -111,13 +111,15 @@ fn put_source(out: &mut [u8], at: usize, form: u8, field: u64)
     out[at + 9] = 0;
 }
 
+// Ten bytes from a place on, and no array of ten: `put_word` too takes a buffer and a place.
 fn put_values(out: &mut [u8], at: usize, v: Values)
     requires { at + 10 ≤ length out.old }
     ensures { out.new ≡ with_bytes out.old at (operand_bytes v) }
 {
     out[at] = v.form;
-    out[at + 1] = (v.number % 256) as u8;
-    out[at + 2] = (v.number / 256) as u8;
+    let [low, high] = v.number.to_le_bytes();
+    out[at + 1] = low;
+    out[at + 2] = high;
     out[at + 3] = v.first;
     out[at + 4] = v.second;
     out[at + 5] = v.third;

@@ -39,7 +39,8 @@ pub(crate) fn sampler_values(field: u64) -> Values
     }
 }
 
-// A destination has two values after its number.
+// By name and no From: the same values make a destination or an operand, as their place in the flat form tells. A destination has two values after
+// its number.
 pub(crate) fn destination_from(v: Values) -> Option<MaskedRegister>
     ensures { result ≡ destination_from v }
 {

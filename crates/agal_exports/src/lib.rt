@@ -1,4 +1,5 @@
-// The C interface: a static library whose functions are those of the crate `agal_c`, with the same promises. A slice is a pointer and a
+// The C interface: a static library whose functions are those of the crate `agal_c`, with the same promises: two crates, since no crate
+// can call or cite a static library. A slice is a pointer and a
 // length in C; `include/agal.h` declares the functions, and says what a caller hands over.
 #![tactic(auto)]
 

@@ -31,6 +31,6 @@ fn put<W: Write>(out: &mut W, input: &[u8], buffer: &mut [u8]) -> io::Result<()>
 {
     match report::report(input, buffer) {
         Ok(length) => out.write_all(&buffer[..length]),
-        Err(_) => Ok(()),
+        Err(_) => unreachable!(),
     }
 }

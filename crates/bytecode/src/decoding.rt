@@ -45,6 +45,7 @@ pub fn fault_of(raw: RawToken) -> Result<(), Refusal>
 pub fn is_clean(raw: RawToken) -> bool
     ensures { result ≡ is_clean raw.shape raw.fields }
 {
+    // The defined bits of the three fields, as in `lowest_part`: a struct for them would be made and taken apart in these two alone.
     let RawToken { shape, fields } = raw;
     let destination = bits::destination_bits(shape.destination);
     let source1 = bits::operand_bits(shape.source1);

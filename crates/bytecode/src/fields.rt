@@ -7,7 +7,7 @@ ghost use Rattle.bytecode.specs.computed.CleanFields.{fields_in};
 use crate::stores;
 use layout::fields::Fields;
 
-// The fields of bytes that are no token: all 0.
+// The fields of bytes that are no token: all 0, and no Option, since `fields_of` is promised for all bytes (`fields_in`).
 const NO_FIELDS: Fields = Fields {
     opcode: 0,
     destination: 0,
@@ -39,6 +39,7 @@ pub(crate) fn read_fields(bytes: &[u8]) -> Fields
     }
 }
 
+// Of two words, as its definition has it.
 fn long_at(bytes: &[u8], at: usize) -> u64
     requires { at + 8 ≤ length bytes.now }
     ensures { result ≡ long_at bytes.now at }

@@ -85,7 +85,7 @@ fn placed(value: u64, at: Bits) -> u64
     value << at.first
 }
 
-// A signed byte as the byte that says it, by two's complement.
+// A signed byte as the byte that says it, by two's complement: a public name for what std has.
 pub fn unsigned_byte(value: i8) -> u8
     ensures { (result ≡ unsigned value) × T (is_signed_byte value) }
 {

@@ -4,7 +4,7 @@ ghost use Rattle.bytecode.specs.Decode.{refusal as refused};
 
 use crate::answers::Refusal;
 
-// The refusal with these numbers. That of nothing has all three 0.
+// The refusal with these numbers.
 pub fn refusal(number: u8, token: usize, part: u8) -> Refusal
     ensures { result ≡ refused number token part }
 {

@@ -103,6 +103,7 @@ fn mask_of(raw: RawToken) -> u8
     0
 }
 
+// 0 of what has none, as its definition says; so it is of a mask.
 #[tactic(auto, unfolding(layout::specs::Records::token_of))]
 fn dimension_of(raw: RawToken) -> u8
     ensures { result ≡ dimension_of (token_of raw.shape raw.fields).source2 }

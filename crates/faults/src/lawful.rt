@@ -10,7 +10,7 @@ use layout::opcodes::OperandShape;
 use layout::{bits, opcodes, selection};
 
 // What a lawful token may use in an edition and a stage: the ordinary opcodes, and how many registers of each kind a source, a destination and
-// an index may name. A count has eight bits, and is 0 for a kind that may not be named there.
+// an index may name, with the profile that they are of. A count has eight bits, and is 0 for a kind that may not be named there.
 #[derive(Clone, Copy)]
 pub struct Usable {
     pub profile: Profile,
@@ -203,6 +203,7 @@ impl Usable {
     }
 }
 
+// The processor chooses here and guesses nothing, as in `only` of `components`.
 fn source_bits(used: bool) -> u64
     ensures { result ≡ lawful_source_bits used }
 {

@@ -81,7 +81,7 @@ impl Profile {
         .map_err(|number| bytecode::refusal(number, token, 3))
     }
 
-    // The number of the first of 16 to 19 of an operand of so many rows, whose rule 18 is `swizzled`.
+    // The number alone, as a refusal has it: token and part are the caller's. It is that of the first of 16 to 19 of an operand of so many rows, whose rule 18 is `swizzled`.
     fn operand_fault<F: Fn(u8) -> bool>(
         self,
         rows: u8,

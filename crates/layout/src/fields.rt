@@ -23,7 +23,7 @@ pub struct RawToken {
 }
 
 impl RawToken {
-    // The fields, with the shape of their opcode.
+    // The fields, with the shape of their opcode. By name and no From: the shape is looked up.
     pub fn of(fields: Fields) -> RawToken
         ensures { result ≡ record { shape = shape_of fields.opcode; fields = fields } }
     {
@@ -48,7 +48,7 @@ impl RawToken {
     }
 }
 
-// A number from its four bytes, the lowest first.
+// A number from its four bytes, the lowest first: a public name for what std has.
 pub fn word(a: u8, b: u8, c: u8, d: u8) -> u32
     ensures { result ≡ a + 256 * b + 65536 * c + 16777216 * d }
 {

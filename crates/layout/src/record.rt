@@ -1,5 +1,5 @@
-// A token record: what the 24 bytes of a token say. A `kind` is a register type, 0 to 6 in the format. Kinds and the settings of a sampler stay
-// numbers: decode answers with each that has four bits, and encode is asked of any byte and refuses those above (`Decodes`, `Encodes`).
+// A token record: what the 24 bytes of a token say. A `kind` is a register type, 0 to 6 in the format. In code it is written by its number, as the
+// rules have it. Kinds and the settings of a sampler stay numbers: decode answers with each that has four bits, and encode is asked of any byte and refuses those above (`Decodes`, `Encodes`).
 ghost use Rattle.std.specs.Prelude.{◌≡◌};
 ghost use Rattle.layout.specs.Records.{as_direct};
 

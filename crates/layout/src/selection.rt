@@ -58,7 +58,7 @@ pub fn coordinates(dimension: u8) -> u8
     }
 }
 
-// The selectors of source 2 that an opcode reads by.
+// The selectors of source 2 that an opcode reads by: not those of source 1 with other sets, which has kil and tex besides.
 pub fn selectors2(opcode: u32, mask: u8) -> u8
     ensures { result ≡ selector_set2 opcode mask }
 {
@@ -107,7 +107,7 @@ pub fn components_read(swizzle: u8, selectors: u8) -> u8
     }
 }
 
-// The same, selector by selector.
+// The same, selector by selector: a line for each, joined with no branch.
 #[tactic(auto, unfolding(crate::specs::computed::Sets::named_set))]
 pub fn named(swizzle: u8, selectors: u8) -> u8
     ensures { result ≡ named_set swizzle selectors }

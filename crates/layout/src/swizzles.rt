@@ -1,4 +1,5 @@
-// The components of a mask, and those that a swizzle names. A component is 0 for x to 3 for w; a set of them has 1 for x, 2 for y, 4 for z and
+// The components of a mask, and those that a swizzle names. A component is 0 for x to 3 for w, a number, since
+// every number is answered; a set of them has 1 for x, 2 for y, 4 for z and
 // 8 for w, as a mask does.
 ghost use Rattle.std.specs.Prelude.{◌≡◌};
 ghost use Rattle.layout.specs.Swizzles.{bit_of, selector, components_of, selectors_agree};
@@ -6,8 +7,8 @@ ghost use Rattle.layout.specs.Swizzles.{bit_of, selector, components_of, selecto
 // The swizzle that names each component in its place.
 pub const XYZW: u8 = 0xe4;
 
-// Whether a mask has a component: bit 0 is x, bit 3 is w. `opcodes::among` asks the same of 64 bits; one function for both would need a trait of
-// numbers and its laws, which is more than the two lines.
+// Whether a mask has a component: bit 0 is x, bit 3 is w. `opcodes::among` asks the same of 64 bits: by it the mask and the
+// component would be widened first, for one line less.
 pub fn mask_has(mask: u8, component: u8) -> bool
     ensures { result ≡ bit_of mask component }
 {

@@ -87,7 +87,7 @@ pub fn unpack_sampler(field: u64) -> Sampler
     }
 }
 
-// A byte as a signed number, by two's complement.
+// A byte as a signed number, by two's complement: a public name for what std has.
 pub fn signed_byte(byte: u8) -> i8
     ensures { result ≡ signed byte }
 {

@@ -1,5 +1,7 @@
 -- What is known of an operand once its case is, and the room that the operands of an encodable record take.
 -- Assumes nothing.
+use Rattle.std.specs.Prelude.{Option, Some}
+use Rattle.layout.specs.declared.record.MaskedRegister.{MaskedRegister}
 use Prim.Native.Nat.{ℕ, ◌≤◌}
 use mathlib.Core.Bool.{Bool, true, false, cond}
 use mathlib.Core.Path.{◌≡◌, refl, ◌∙◌, sym, ap}
@@ -17,6 +19,11 @@ use Rattle.layout.specs.declared.record.Token.{Token}
 use Rattle.laws.proofs.Every.{both}
 use Rattle.listing.specs.Line.{is_nameable, destination_has_names, operand_has_names}
 use Rattle.listing.specs.computed.Writers.{operand_room, Nameable}
+
+-- ---- names
+
+pub masked_kind_lem : {d : Option MaskedRegister} {r : MaskedRegister} → d ≡ Some r → destination_has_names d ≡ true → r.kind ≤ 6
+masked_kind_lem {r = r} e h = leb-true r.kind 6 (sym (ap destination_has_names e) ∙ h)
 
 -- ---- room
 

@@ -7,6 +7,7 @@ use crate::text::Writer;
 
 impl Writer<'_> {
     // A number of 0 to 65535, which has at most five digits: that of each unit in turn, from the largest unit that the number reaches.
+    // A line for each unit: a loop over them is as long and needs an invariant.
     #[inline(always)]
     pub(crate) fn decimal(&mut self, n: u16)
         requires { HasRoom 5 self.old }
@@ -16,7 +17,7 @@ impl Writer<'_> {
         self.digit(n, 1000);
         self.digit(n, 100);
         self.digit(n, 10);
-        self.byte(48 + (n % 10) as u8);
+        self.byte(b'0' + (n % 10) as u8);
     }
 
     // The digit that counts a unit, a power of ten, or nothing where the number is smaller.

@@ -18,6 +18,7 @@ pub struct Heading {
     pub tokens: u16,
 }
 
+// The lines that document 01 lists. No Result: all four are printed alike (`first_line`).
 #[derive(Clone, Copy)]
 pub enum FirstLine {
     Accepted(Heading),
@@ -73,7 +74,7 @@ impl Writer<'_> {
         self.byte(b'\n');
     }
 
-    // `refused 14 at 0 part 1`
+    // `refused 14 at 0 part 1`. Not by Display, for the reason at `Writer`; that both are one text is proved (proofs/RefusalText.antt).
     fn refusal(&mut self, r: Refusal)
         requires { HasRoom 49 self.old }
         ensures { Writes (refusal_line r) 49 self.old self.new }

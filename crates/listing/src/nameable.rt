@@ -4,6 +4,7 @@ ghost use Rattle.listing.specs.Line.{is_nameable, destination_has_names, operand
 
 use layout::record::{MaskedRegister, Operand, Token};
 
+// The three values that the public line takes; a struct of them would be made there alone.
 pub(crate) fn nameable(token: Token, stage: u8, depth: u8) -> bool
     ensures { result ≡ is_nameable token stage depth }
 {

@@ -53,6 +53,7 @@ fn register_name(stage: Stage, kind: u8) -> &'static [u8]
     }
 }
 
+// A sampler's settings: lists of the format, each a function of its own name and bound.
 pub(crate) fn dimension_name(dimension: u8) -> &'static [u8]
     ensures name { result.now ≡ dimension_name dimension }
     ensures short { length result.now ≤ 4 }

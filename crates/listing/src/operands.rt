@@ -1,4 +1,4 @@
-// The operands of a line, each with the space before it.
+// The operands of a line, each with the space before it. The stage is handed in and is no field of the writer, since the first line has none yet.
 ghost use Rattle.listing.specs.Items.{masked_text, direct_text, index_text, indexed_text, sampler_text, destination_text, operand_text};
 ghost use Rattle.listing.specs.computed.Writers.{HasRoom, Writes, stage_number, operand_room};
 

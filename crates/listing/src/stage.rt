@@ -10,7 +10,7 @@ pub(crate) enum Stage {
 }
 
 impl Stage {
-    // A stage is 0, vertex, or 1, fragment.
+    // A stage is 0, vertex; any other number is taken for a fragment program's (`stage_name`), so this is a name and no From.
     pub(crate) fn of(stage: u8) -> Stage
         ensures { stage_number result ≡ min stage 1 }
     {

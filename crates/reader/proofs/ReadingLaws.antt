@@ -33,7 +33,7 @@ module _ (s : List ℕ) where
   long_enough h = simp (le-ltb (length s) 7 h)
 
   -- the numbers of what opening answers are its fault's
-  opening_numbers_lem : opening_numbers (opening_of s) ≡ found_numbers (opening_fault s) 0 0
+  pub opening_numbers_lem : opening_numbers (opening_of s) ≡ found_numbers (opening_fault s) 0 0
   unfolding opening_of opening_fault
   opening_numbers_lem = go (ltb (length s) 7)
     where

@@ -12,7 +12,8 @@ pub struct TokenReader<'a> {
     pub place: usize,
 }
 
-// A refused opening has a reader too, and its reads answer that no whole token is left.
+// `Opened` and `Read` differ in the answer alone, and are two types, since `Opens` and `Reads`, and the theorems on them, name each. A refused opening
+// has a reader too, and its reads answer that no whole token is left.
 #[derive(Clone, Copy)]
 pub struct Opened<'a> {
     pub answer: Result<(), Refusal>,

@@ -1,4 +1,4 @@
-// The reader's methods as functions: these two public names may not go, and docs/PROMISES.md states their contracts.
+// The reader's methods as functions: what document 01 calls opening and reading, under the names that callers have.
 ghost use Rattle.reader.specs.Reading.{Opens, Reads};
 
 use crate::answers::{Opened, Read, TokenReader};

@@ -6,7 +6,7 @@ ghost use Rattle.reader.specs.computed.Steps.{token_bytes};
 use bytecode::answers::Refusal;
 use layout::record::Token;
 
-// The bytes of a token, or none where the program has no such token.
+// The bytes of a token, or none where the program has no such token: no Option, since decode of no bytes answers 24.
 pub fn token_bytes(program: &[u8], token: usize) -> &[u8]
     ensures { result.now ≡ token_bytes program.now token }
 {

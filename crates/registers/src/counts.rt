@@ -25,7 +25,8 @@ pub fn register_counts(edition: u32, stage: u8) -> u64
     }
 }
 
-// A constant array is built wherever it is read, so all counts are read at once.
+// A constant array is built wherever it is read, so all counts are read at once. A line for each kind: a map over the kinds would make another array,
+// to be taken apart into these eight bytes again.
 fn counts_of(edition: u32, stage: u8) -> u64
     requires first { 1 ≤ edition }
     requires last { edition ≤ 3 }

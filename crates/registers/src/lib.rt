@@ -2,7 +2,8 @@
 //
 // A kind is a register type: 0 attribute, 1 constant, 2 temporary, 3 output, 4 varying, 5 sampler, 6 fragment register. A stage is 0 for a
 // vertex program and 1 for a fragment program. An edition is 1, 2 or 3. Every function answers every number: what the format does not have
-// counts 0 and is neither read nor written. So stages, editions and kinds are numbers here, and in every public call that is asked of them.
+// counts 0 and is neither read nor written. So stages, editions and kinds are numbers here (`count_of`, `limit_of`,
+// `is_readable` and `is_writable` say what each gives), and in the public calls that hand them on.
 #![tactic(auto)]
 
 mod counts;

@@ -1,4 +1,4 @@
-// What a text opens with, and the token lines that follow.
+// What a text says: its first line, and the bytes whose tokens the lines after it are of.
 ghost use Rattle.std.specs.Prelude.{◌≡◌, ◌≤◌, length};
 ghost use Rattle.verifier.specs.Verdict.{verdict};
 ghost use Rattle.report.specs.Text.{answer_text, is_edition as is_edition_digit, edition_of, text_of};
@@ -69,7 +69,7 @@ fn is_edition(digit: u8) -> bool
     matches!(digit, b'1'..=b'3')
 }
 
-// The edition that a digit names. Whether it names one is asked first, by itself, as the definition has it (`text_of`).
+// The edition that a digit names. Whether it names one is asked first, by itself, as `text_of` asks it.
 fn edition_of(digit: u8) -> u16
     requires { (49 ≤ digit) × (digit ≤ 51) }
     ensures { result ≡ edition_of digit }

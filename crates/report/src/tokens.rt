@@ -37,7 +37,8 @@ pub(crate) fn tokens_length(stage: u8, bytes: &[u8]) -> usize
     total
 }
 
-// The lines of so many tokens from one on, which is the next, where so many branches are open before it.
+// The lines of `left` tokens from `token` on, where `opened` branches are open before it. What is left is counted, since the iterator's end is told by
+// it (`remaining`).
 #[derive(Clone, Copy)]
 struct Lines<'a> {
     stage: u8,
@@ -120,7 +121,7 @@ impl Line {
         }
     }
 
-    // How many bytes put writes: it is written to know. A text's length is known in no other way, so each of these three has its put beside it.
+    // How many bytes put writes: it is written to know. The length of a line, of a first line and of a text is known in no other way.
     fn length(self) -> usize
         ensures { Measured (line_of self.token self.stage self.depth) 128 result }
     {

@@ -90,7 +90,8 @@ fn passed_unless(unwritten: bool, current: Written, f: Fields) -> Option<Written
 }
 
 impl State {
-    // What a token of a branch does to the state, where it is known to have no fault; Plain where that is not known, or it is no branch.
+    // What a token of a branch does to the state, where it is known to have no fault; Plain where that is not known, or it is no branch:
+    // no Option, since either way the token is judged rule by rule.
     pub(crate) fn known_branch(&self, usable: Usable, f: Fields) -> Flow
         ensures { KnownBranch usable self.now f result }
     {

@@ -19,7 +19,8 @@ pub struct Branch {
 }
 
 // The innermost of the open branches stands by itself, since most tokens that change a branch change that one. The array has those around
-// it, the outermost first. The fault is the first that was met.
+// it, the outermost first: nothing is allocated, and document 01 names arrays that go by value. How many are open is told by the depth alone, and
+// every state that can be written down is one that the methods take, so the innermost is no Option. The fault is the first that was met.
 #[derive(Clone, Copy)]
 pub struct State {
     pub current: Written,
@@ -52,7 +53,7 @@ impl State {
         (self.depth % 16 + 15) % 16
     }
 
-    // Where the branch around it stands: one place further back, and a definition of its own.
+    // Where the branch around it stands: one place further back (`slot_around`).
     pub(crate) fn slot_around(&self) -> usize
         ensures { (result ≡ slot_around self.now.depth) × (result < 16) }
     {
@@ -186,6 +187,7 @@ pub(crate) fn written_by(current: Written, register: MaskedRegister) -> Written
     current.mark(register.number, mask)
 }
 
+// The processor chooses here and guesses nothing, as in `only` of `components`.
 fn temporary_mask(temporary: bool, mask: u8) -> u8
     ensures { result ≡ cond temporary mask 0 }
 {

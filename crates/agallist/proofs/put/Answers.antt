@@ -7,11 +7,11 @@ slice_bounds-write_all-end g c =
     let a = appended c.report.ensures.prints (le_trans c.report.ensures.short c.requires) c.in-Ok.length c.in-Ok.is in
     omega (arith, a.room, c.report.ensures.short, c.requires, c.report.auto.out)
 
-pub returns-in-Ok : goal.returns-in-Ok
-returns-in-Ok g c =
+pub returns : goal.returns
+returns g c =
     let a = appended c.report.ensures.prints (le_trans c.report.ensures.short c.requires) c.in-Ok.length c.in-Ok.is in
     rw a.text at c.write_all.ensures.bytes
 
-pub returns-in-Err : goal.returns-in-Err
-returns-in-Err g c =
-    absurd (not_refused c.report.ensures.prints (le_trans c.report.ensures.short c.requires) c.in-Err.field-0 c.in-Err.is)
+pub unreachable-requires : goal.unreachable-requires
+unreachable-requires g c =
+    not_refused c.report.ensures.prints (le_trans c.report.ensures.short c.requires) c.in-Err.field-0 c.in-Err.is
