@@ -19,10 +19,7 @@ pub(crate) fn nameable(token: Token, stage: u8, depth: u8) -> bool
 fn destination_has_names(destination: Option<MaskedRegister>) -> bool
     ensures { result ≡ destination_has_names destination }
 {
-    match destination {
-        None => true,
-        Some(register) => register.kind <= 6,
-    }
+    destination.is_none_or(|register| register.kind <= 6)
 }
 
 // An index type counts only for an indexed source.

@@ -1,10 +1,10 @@
 -- What line wrote of a record that has a line: it was lent the part of a buffer from a place on, with room for the line.
 -- Assumes nothing.
-use Rattle.std.specs.Prelude.{Err, Ok, Result}
+use Rattle.std.specs.Prelude.{Err, IsOk, Ok, Result}
 use Prim.Native.Nat.{ℕ, ◌+◌, ◌-◌, ◌≤◌}
 use mathlib.Core.Bool.{true}
 use mathlib.Core.List.{List, ◌++◌}
-use mathlib.Core.Path.{◌≡◌}
+use mathlib.Core.Path.{◌≡◌, refl}
 use native.Mathlib.Nat.{le_refl}
 use native.Mathlib.Omega.{arith}
 use lib.ListN.{length, take, drop, length-drop}
@@ -42,3 +42,8 @@ module _ (t : Token) (stage depth : ℕ) (named : is_nameable t stage depth ≡ 
 
     pub has_line : (f : Refusal) → r ≡ Err f → ⊥
     has_line f e = not_refused (as_text t stage depth named done) fits f e
+
+-- an answer that is no refusal can be unwrapped
+pub is_ok_unless : {A : Type 0} (r : Result A Refusal) → ((e : Refusal) → r ≡ Err e → ⊥) → IsOk r
+is_ok_unless (Ok x) never = refl
+is_ok_unless (Err e) never = absurd (never e refl)

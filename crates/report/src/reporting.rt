@@ -64,8 +64,5 @@ fn put_first(out: &mut [u8], first: FirstLine) -> usize
     requires { HasRoom (first_line first) (first_most first) 0 (length out.old) }
     ensures { Puts (first_line first) (first_most first) 0 out.old out.new result }
 {
-    match listing::first_line(first, out) {
-        Ok(n) => n,
-        Err(_) => unreachable!(),
-    }
+    listing::first_line(first, out).unwrap()
 }

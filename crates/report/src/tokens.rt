@@ -12,7 +12,7 @@ use layout::opcodes;
 use layout::opcodes::Flow;
 use layout::record::Token;
 
-// A line for each token, none of which has more than 128 bytes.
+// A line for each token, none of which has more than 128 bytes. This and the next are no methods of `Lines`, which is taken apart by their loops.
 pub(crate) fn put_tokens(out: &mut [u8], at: usize, stage: u8, bytes: &[u8]) -> usize
     requires listed { Listed stage bytes.now }
     requires has_room { HasRoom (all_lines stage bytes.now) (128 * token_count bytes.now) at (length out.old) }
@@ -115,10 +115,7 @@ impl Line {
         requires { HasRoom (line_of self.token self.stage self.depth) 128 at (length out.old) }
         ensures { Puts (line_of self.token self.stage self.depth) 128 at out.old out.new result }
     {
-        match listing::line(self.token, self.stage, self.depth, &mut out[at..]) {
-            Ok(n) => at + n,
-            Err(_) => unreachable!(),
-        }
+        at + listing::line(self.token, self.stage, self.depth, &mut out[at..]).unwrap()
     }
 
     // How many bytes put writes: it is written to know. The length of a line, of a first line and of a text is known in no other way.
@@ -135,10 +132,7 @@ fn token_at(bytes: &[u8], token: usize) -> Token
     requires { decode_of (token_at bytes.now token) ≡ Ok (record_of (token_at bytes.now token)) }
     ensures { result ≡ record_of (token_at bytes.now token) }
 {
-    match reader::read_at(bytes, token) {
-        Ok(t) => t,
-        Err(_) => unreachable!(),
-    }
+    reader::read_at(bytes, token).unwrap()
 }
 
 // Els and eif stand at the depth of their opener. What is open after a token is another count, told by other arms.
