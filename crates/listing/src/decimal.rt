@@ -1,7 +1,7 @@
 // Numbers in decimal, without leading zeros.
 ghost use Rattle.std.specs.Prelude.{◌^◌, ◌≤◌, ◌<◌};
 ghost use Rattle.listing.specs.Decimal.{decimal, signed_decimal};
-ghost use Rattle.listing.specs.computed.Writers.{HasRoom, Writes, digit_at};
+ghost use Rattle.listing.specs.computed.Writers.{RoomFor, Writes, digit_at};
 
 use crate::text::Writer;
 
@@ -10,7 +10,7 @@ impl Writer<'_> {
     // A line for each unit: a loop over them is as long and needs an invariant.
     #[inline(always)]
     pub(crate) fn decimal(&mut self, n: u16)
-        requires { HasRoom 5 self.old }
+        requires { RoomFor 5 self.old }
         ensures { Writes (decimal n) 5 self.old self.new }
     {
         self.digit(n, 10000);
@@ -23,7 +23,7 @@ impl Writer<'_> {
     // The digit that counts a unit, a power of ten, or nothing where the number is smaller.
     #[inline(always)]
     fn digit(&mut self, n: u16, unit: u16)
-        requires room { HasRoom 1 self.old }
+        requires room { RoomFor 1 self.old }
         requires unit { 1 ≤ unit }
         ensures { Writes (digit_at n unit) 1 self.old self.new }
     {
@@ -34,7 +34,7 @@ impl Writer<'_> {
     // It calls itself, since the last digit is found first: a loop needs a buffer for the digits, or a falling power of ten and an invariant.
     pub(crate) fn long(&mut self, n: usize, most: usize)
         requires n_bound { n < 10 ^ most }
-        requires room { HasRoom most self.old }
+        requires room { RoomFor most self.old }
         requires le_most { 1 ≤ most }
         ensures { Writes (decimal n) most self.old self.new }
     {
@@ -47,7 +47,7 @@ impl Writer<'_> {
 
     #[inline(always)]
     pub(crate) fn signed(&mut self, value: i8)
-        requires { HasRoom 6 self.old }
+        requires { RoomFor 6 self.old }
         ensures { Writes (signed_decimal value) 6 self.old self.new }
     {
         self.when(value < 0, b'-');

@@ -2,7 +2,7 @@
 ghost use Rattle.std.specs.Prelude.{◌++◌, ◌+◌, ◌≤◌, length};
 ghost use Rattle.listing.specs.Decimal.{decimal};
 ghost use Rattle.listing.specs.First.{heading_line, refusal_line, first_line};
-ghost use Rattle.listing.specs.computed.Writers.{first_most, Appends, HasRoom, Writes};
+ghost use Rattle.listing.specs.computed.Writers.{first_most, Appends, RoomFor, Writes};
 ghost use Rattle.listing.specs.Printing.{Prints};
 
 use crate::printing;
@@ -51,7 +51,7 @@ fn put_first_line(out: &mut [u8], first: FirstLine) -> usize
 
 impl Writer<'_> {
     fn first_line(&mut self, first: FirstLine)
-        requires { HasRoom 49 self.old }
+        requires { RoomFor 49 self.old }
         ensures { Writes (first_line first) (first_most first) self.old self.new }
     {
         match first {
@@ -64,7 +64,7 @@ impl Writer<'_> {
 
     // `agal 1 vertex 2`
     fn heading(&mut self, heading: Heading)
-        requires { HasRoom 34 self.old }
+        requires { RoomFor 34 self.old }
         ensures { Writes (heading_line heading) 34 self.old self.new }
     {
         self.numbered(b"agal ", heading.edition);
@@ -76,7 +76,7 @@ impl Writer<'_> {
 
     // `refused 14 at 0 part 1`. Not by Display, for the reason at `Writer`; that both are one text is proved (proofs/RefusalText.antt).
     fn refusal(&mut self, r: Refusal)
-        requires { HasRoom 49 self.old }
+        requires { RoomFor 49 self.old }
         ensures { Writes (refusal_line r) 49 self.old self.new }
     {
         self.numbered(b"refused ", u16::from(r.number));
@@ -89,7 +89,7 @@ impl Writer<'_> {
 
     // A word and a number after it.
     fn numbered(&mut self, word: &[u8], n: u16)
-        requires { HasRoom (length word.now + 5) self.old }
+        requires { RoomFor (length word.now + 5) self.old }
         ensures { Writes (word.now ++ decimal n) (length word.now + 5) self.old self.new }
     {
         self.bytes(word);

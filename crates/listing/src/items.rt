@@ -1,6 +1,6 @@
 // The items of a line: indentation, a register with its number, mask letters, swizzle letters.
 ghost use Rattle.std.specs.Prelude.{◌≡◌, [], ◌∷◌, ◌≤◌};
-ghost use Rattle.listing.specs.computed.Writers.{HasRoom, Writes, stage_number};
+ghost use Rattle.listing.specs.computed.Writers.{RoomFor, Writes, stage_number};
 ghost use Rattle.listing.specs.Items.{indentation, register_text, component_letter, mask_text, swizzle_text};
 
 use crate::stage::Stage;
@@ -10,7 +10,7 @@ impl Writer<'_> {
     // Two spaces for each level of depth.
     #[inline(always)]
     pub(crate) fn indentation(&mut self, depth: u8)
-        requires room { HasRoom 32 self.old }
+        requires room { RoomFor 32 self.old }
         requires depth { depth ≤ 16 }
         ensures { Writes (indentation depth) 32 self.old self.new }
     {
@@ -20,7 +20,7 @@ impl Writer<'_> {
 
     #[inline(always)]
     pub(crate) fn register(&mut self, stage: Stage, kind: u8, number: u16)
-        requires { HasRoom 7 self.old }
+        requires { RoomFor 7 self.old }
         ensures { Writes (register_text (stage_number stage) kind number) 7 self.old self.new }
     {
         self.register_name(stage, kind);
@@ -30,7 +30,7 @@ impl Writer<'_> {
     // A line for each of the four components: a loop over them is as long and needs an invariant. So it is in `swizzle`.
     #[inline(always)]
     pub(crate) fn mask(&mut self, mask: u8)
-        requires { HasRoom 5 self.old }
+        requires { RoomFor 5 self.old }
         ensures { Writes (mask_text mask) 5 self.old self.new }
     {
         self.byte(b'.');
@@ -42,7 +42,7 @@ impl Writer<'_> {
 
     #[inline(always)]
     pub(crate) fn swizzle(&mut self, swizzle: u8)
-        requires { HasRoom 5 self.old }
+        requires { RoomFor 5 self.old }
         ensures { Writes (swizzle_text swizzle) 5 self.old self.new }
     {
         self.byte(b'.');
@@ -55,7 +55,7 @@ impl Writer<'_> {
     // The letter of a component.
     #[inline(always)]
     pub(crate) fn component(&mut self, component: u8)
-        requires { HasRoom 1 self.old }
+        requires { RoomFor 1 self.old }
         ensures { Writes (component_letter component ∷ []) 1 self.old self.new }
     {
         self.byte(match component {

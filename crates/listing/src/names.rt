@@ -2,7 +2,7 @@
 ghost use Rattle.std.specs.Prelude.{true, ◌≡◌, ◌≤◌, length};
 ghost use Rattle.layout.specs.Opcodes.{is_listed};
 ghost use Rattle.listing.specs.Names.{opcode_name, register_name, dimension_name, mipmap_name, wrap_name, filter_name};
-ghost use Rattle.listing.specs.computed.Writers.{HasRoom, Writes, stage_number};
+ghost use Rattle.listing.specs.computed.Writers.{RoomFor, Writes, stage_number};
 
 use crate::stage::Stage;
 use crate::text::Writer;
@@ -15,7 +15,7 @@ const OPCODES: [u8; 138] =
 impl Writer<'_> {
     #[inline(always)]
     pub(crate) fn opcode(&mut self, opcode: u32)
-        requires room { HasRoom 3 self.old }
+        requires room { RoomFor 3 self.old }
         requires listed { is_listed opcode ≡ true }
         ensures { Writes (opcode_name opcode) 3 self.old self.new }
     {
@@ -25,7 +25,7 @@ impl Writer<'_> {
 
     #[inline(always)]
     pub(crate) fn register_name(&mut self, stage: Stage, kind: u8)
-        requires { HasRoom 2 self.old }
+        requires { RoomFor 2 self.old }
         ensures { Writes (register_name (stage_number stage) kind) 2 self.old self.new }
     {
         self.bytes(register_name(stage, kind));

@@ -1,6 +1,6 @@
 // The operands of a line, each with the space before it. The stage is handed in and is no field of the writer, since the first line has none yet.
 ghost use Rattle.listing.specs.Items.{masked_text, direct_text, index_text, indexed_text, sampler_text, destination_text, operand_text};
-ghost use Rattle.listing.specs.computed.Writers.{HasRoom, Writes, stage_number, operand_room};
+ghost use Rattle.listing.specs.computed.Writers.{RoomFor, Writes, stage_number, operand_room};
 
 use crate::stage::Stage;
 use crate::text::Writer;
@@ -9,7 +9,7 @@ use layout::record::{DirectSource, IndexedSource, MaskedRegister, Operand, Sampl
 impl Writer<'_> {
     #[inline(always)]
     pub(crate) fn destination(&mut self, stage: Stage, destination: Option<MaskedRegister>)
-        requires { HasRoom 13 self.old }
+        requires { RoomFor 13 self.old }
         ensures { Writes (destination_text (stage_number stage) destination) 13 self.old self.new }
     {
         match destination {
@@ -20,7 +20,7 @@ impl Writer<'_> {
 
     #[inline(always)]
     pub(crate) fn operand(&mut self, stage: Stage, operand: Operand)
-        requires { HasRoom (operand_room operand) self.old }
+        requires { RoomFor (operand_room operand) self.old }
         ensures { Writes (operand_text (stage_number stage) operand) (operand_room operand) self.old self.new }
     {
         match operand {
@@ -33,7 +33,7 @@ impl Writer<'_> {
 
     #[inline(always)]
     fn masked(&mut self, stage: Stage, r: MaskedRegister)
-        requires { HasRoom 13 self.old }
+        requires { RoomFor 13 self.old }
         ensures { Writes (masked_text (stage_number stage) r) 13 self.old self.new }
     {
         self.byte(b' ');
@@ -43,7 +43,7 @@ impl Writer<'_> {
 
     #[inline(always)]
     fn direct(&mut self, stage: Stage, s: DirectSource)
-        requires { HasRoom 13 self.old }
+        requires { RoomFor 13 self.old }
         ensures { Writes (direct_text (stage_number stage) s) 13 self.old self.new }
     {
         self.byte(b' ');
@@ -53,7 +53,7 @@ impl Writer<'_> {
 
     #[inline(always)]
     fn indexed(&mut self, stage: Stage, s: IndexedSource)
-        requires { HasRoom 25 self.old }
+        requires { RoomFor 25 self.old }
         ensures { Writes (indexed_text (stage_number stage) s) 25 self.old self.new }
     {
         self.byte(b' ');
@@ -65,7 +65,7 @@ impl Writer<'_> {
     // The index register, its component, and the offset, in brackets.
     #[inline(always)]
     fn index(&mut self, stage: Stage, s: IndexedSource)
-        requires { HasRoom 17 self.old }
+        requires { RoomFor 17 self.old }
         ensures { Writes (index_text (stage_number stage) s) 17 self.old self.new }
     {
         self.byte(b'[');
@@ -79,7 +79,7 @@ impl Writer<'_> {
 
     #[inline(always)]
     fn sampler(&mut self, stage: Stage, s: Sampler)
-        requires { HasRoom 52 self.old }
+        requires { RoomFor 52 self.old }
         ensures { Writes (sampler_text (stage_number stage) s) 52 self.old self.new }
     {
         self.byte(b' ');

@@ -1,5 +1,5 @@
 // The settings of a sampler.
-ghost use Rattle.listing.specs.computed.Writers.{HasRoom, Writes};
+ghost use Rattle.listing.specs.computed.Writers.{RoomFor, Writes};
 ghost use Rattle.listing.specs.Items.{settings_text, texture_text, sampling_text, bias_text};
 
 use crate::names;
@@ -9,7 +9,7 @@ use layout::record::Sampler;
 impl Writer<'_> {
     #[inline(always)]
     pub(crate) fn settings(&mut self, s: Sampler)
-        requires { HasRoom 44 self.old }
+        requires { RoomFor 44 self.old }
         ensures { Writes (settings_text s) 44 self.old self.new }
     {
         self.byte(b'<');
@@ -22,7 +22,7 @@ impl Writer<'_> {
     // Dimension and mipmap.
     #[inline(always)]
     fn texture(&mut self, s: Sampler)
-        requires { HasRoom 15 self.old }
+        requires { RoomFor 15 self.old }
         ensures { Writes (texture_text s) 15 self.old self.new }
     {
         self.bytes(names::dimension_name(s.dimension));
@@ -33,7 +33,7 @@ impl Writer<'_> {
     // Wrap and filter.
     #[inline(always)]
     fn sampling(&mut self, s: Sampler)
-        requires { HasRoom 15 self.old }
+        requires { RoomFor 15 self.old }
         ensures { Writes (sampling_text s) 15 self.old self.new }
     {
         self.byte(b',');
@@ -45,7 +45,7 @@ impl Writer<'_> {
     // The bias, in eighths of a level of detail.
     #[inline(always)]
     fn bias(&mut self, s: Sampler)
-        requires { HasRoom 12 self.old }
+        requires { RoomFor 12 self.old }
         ensures { Writes (bias_text s) 12 self.old self.new }
     {
         self.bytes(b",bias=");

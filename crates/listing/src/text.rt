@@ -3,7 +3,7 @@
 // at most, which is another number in each.
 ghost use Rattle.std.specs.Prelude.{◌≡◌, [], ◌∷◌, ◌+◌, ◌≤◌, length};
 ghost use Rattle.listing.specs.Text.{when};
-ghost use Rattle.listing.specs.computed.Writers.{Appends, HasRoom, Writes};
+ghost use Rattle.listing.specs.computed.Writers.{Appends, RoomFor, Writes};
 
 // Each method appends an item at `at`. What stands before and after the item stays. Those that a token's line needs are inlined, so that the
 // place stays in a register: with calls between them the listing of a token takes a third more instructions.
@@ -33,7 +33,7 @@ impl<'a> Writer<'a> {
 
     #[inline(always)]
     pub(crate) fn byte(&mut self, byte: u8)
-        requires { HasRoom 1 self.old }
+        requires { RoomFor 1 self.old }
         ensures { Writes (byte ∷ []) 1 self.old self.new }
     {
         self.out[self.at] = byte;
@@ -43,7 +43,7 @@ impl<'a> Writer<'a> {
     // The byte, or nothing where it is not wanted.
     #[inline(always)]
     pub(crate) fn when(&mut self, wanted: bool, byte: u8)
-        requires { HasRoom 1 self.old }
+        requires { RoomFor 1 self.old }
         ensures { Writes (when wanted (byte ∷ [])) 1 self.old self.new }
     {
         if wanted {
@@ -53,7 +53,7 @@ impl<'a> Writer<'a> {
 
     #[inline(always)]
     pub(crate) fn bytes(&mut self, bytes: &[u8])
-        requires { HasRoom (length bytes.now) self.old }
+        requires { RoomFor (length bytes.now) self.old }
         ensures { Writes bytes.now (length bytes.now) self.old self.new }
     {
         for byte in bytes {
@@ -64,7 +64,7 @@ impl<'a> Writer<'a> {
     // The same for bytes that stand in an array on the stack.
     #[inline(always)]
     pub(crate) fn copied(&mut self, bytes: &[u8])
-        requires { HasRoom (length bytes.now) self.old }
+        requires { RoomFor (length bytes.now) self.old }
         ensures { Writes bytes.now (length bytes.now) self.old self.new }
     {
         self.at = put_bytes(self.out, self.at, bytes);

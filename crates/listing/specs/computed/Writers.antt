@@ -22,8 +22,8 @@ pub record Appends (item : List ℕ) (most at : ℕ) (before after : List ℕ) (
   pub rest : drop r after ≡ drop r before
 
 -- so many bytes more fit
-abbrev pub HasRoom : ℕ → Writer → Type 0
-HasRoom n w = w.at + n ≤ length w.out.now
+abbrev pub RoomFor : ℕ → Writer → Type 0
+RoomFor n w = w.at + n ≤ length w.out.now
 
 -- The text that grows in a writer's buffer got an item of at most so many bytes; the buffer is the same one.
 pub record Writes (item : List ℕ) (most : ℕ) (before after : Writer) : Type 0 where
