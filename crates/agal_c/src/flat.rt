@@ -34,8 +34,8 @@ pub(crate) fn outright_fault(token: &[u8]) -> Option<u8>
 }
 
 // Writes the flat form of a token and returns 0, or returns the token's first fault, its number plus 256 times its part; 23 where the lent
-// buffer has no room for a flat form. A number and not a Result: it comes back in a register, where a struct would be written to memory and
-// read from it at once (docs/DECISIONS.md, 48).
+// buffer has no room for a flat form. A number and not a Result: it comes back in a register. As a struct, which was tried, it is written to
+// memory and read from it at once, and the processor waits (docs/DECISIONS.md, 48).
 pub(crate) fn deliver(token: &[u8], flat: &mut [u8]) -> u32
     requires { length token.now ≡ 24 }
     ensures value { result ≡ delivery_code (decode_of token.now) flat.old }

@@ -33,6 +33,7 @@ fn edition_unknown(edition: u32) -> bool
     !matches!(edition, 1 | 2 | 3)
 }
 
+// The word at 1; what reads a word at a place is private to bytecode.
 fn version(bytes: &[u8]) -> u32
     requires { 7 ≤ length bytes.now }
     ensures { result ≡ word_at bytes.now 1 }

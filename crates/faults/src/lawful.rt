@@ -30,7 +30,7 @@ const INDEXED_BITS: u64 = 0x8003_0701_FFFF_FFFF;
 
 impl Usable {
     // A vertex program reads kinds 0, 1 and 2, which may be indices there, and writes 2, 3 and 4; a fragment program reads 1, 2 and 4 and writes
-    // 2, 3 and 6.
+    // 2, 3 and 6. By name and no From: what may be used is looked up.
     #[tactic(auto, unfolding(crate::specs::computed::LawfulTests::usable_of))]
     pub fn of(profile: Profile) -> Usable
         ensures { result ≡ usable_of profile }
@@ -168,7 +168,7 @@ impl Usable {
             & !rules::is_wrong_mask(f.opcode, r.mask)
     }
 
-    // A source that is not used is 0. `used` stands beside the rows, since an Option of them would be taken apart by a branch.
+    // A source that is not used is 0. `used` and `rows` are arguments of its definition, on which those of the tests rest.
     #[tactic(auto, unfolding(crate::specs::computed::LawfulTests::is_lawful_source))]
     fn is_lawful_source(self, used: bool, rows: u8, field: u64) -> bool
         ensures { result ≡ is_lawful_source self.readable used rows field }

@@ -13,6 +13,7 @@ use layout::fields::RawToken;
 use layout::record::Operand;
 use layout::selection;
 
+// The token's number is handed in, since `own_fault` and `undecoded_fault` promise the whole refusal.
 impl Profile {
     // 10 and 11, then 14 to 19, of a record, from the fields that make it.
     #[tactic(auto, unfolding(crate::specs::computed::Faults::own_fault, layout::specs::Records::token_of))]

@@ -69,7 +69,8 @@ const WITH_SOURCE1: u64 = 0x3780_FFFF_FFFF;
 
 const WITH_SOURCE2: u64 = 0x3600_F38E_08DE;
 
-// ddx to eif, and ife to ifl.
+// ddx to eif, and ife to ifl. `is_added` and three like it ask by match, each under its public name; as sets
+// these serve `ordinary` and `selection`.
 const ADDED: u64 = (1 << (EIF + 1)) - (1 << DDX);
 
 pub(crate) const OPENERS: u64 = (1 << (IFL + 1)) - (1 << IFE);
