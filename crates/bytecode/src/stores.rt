@@ -2,8 +2,8 @@
 ghost use Rattle.std.specs.Prelude.{◌≡◌};
 ghost use Rattle.bytecode.specs.computed.Stored.{after_word};
 
-// Writes the low four bytes of a number from a place on, the lowest first; nothing where they don't all fit. The compiler makes one store
-// of the four, since all are bytes of one number.
+// Writes the low four bytes of a number from a place on, the lowest first; nothing where they don't all fit, as is promised (`after_word`). The
+// compiler makes one store of the four, since all are bytes of one number.
 #[tactic(auto, unfolding(crate::specs::computed::Stored::after_word))]
 pub fn put_word(out: &mut [u8], at: usize, word: u64)
     ensures { out.new ≡ after_word out.old at word }

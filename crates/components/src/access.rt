@@ -96,8 +96,8 @@ impl Source {
 fn mask_of(raw: RawToken) -> u8
     ensures { result ≡ mask_of (token_of raw.shape raw.fields).destination }
 {
-    layout::unpack_destination(raw.shape.destination, raw.fields.destination)
-        .map_or(0, |register| register.mask)
+    let destination = layout::unpack_destination(raw.shape.destination, raw.fields.destination);
+    destination.map_or(0, |register| register.mask)
 }
 
 // 0 of what has none, as its definition says; so it is of a mask.

@@ -1,4 +1,4 @@
-// Faults 1 to 8, of the program as a whole: Err is the first. From the second on 7 bytes are there; this is asked in two crates, and a type for it
+// Faults 1 to 8, of the program as a whole: Err is the first. From 3 on 7 bytes are there; this is asked in two crates, and a type for it
 // would be made once and taken apart at once.
 ghost use Rattle.std.specs.Prelude.{◌≡◌, ◌≤◌, length};
 ghost use Rattle.layout.specs.Layout.{word_at};

@@ -9,8 +9,9 @@ use layout::fields::Fields;
 use layout::opcodes::OperandShape;
 use layout::{bits, opcodes, selection};
 
-// What a lawful token may use in an edition and a stage: the ordinary opcodes, and how many registers of each kind a source, a destination and
-// an index may name, with the profile that they are of. A count has eight bits, and is 0 for a kind that may not be named there.
+// What a lawful token may use in an edition and a stage: the ordinary opcodes, and how many registers of each kind a source, a destination and an
+// index may name, with the profile that they are of, which tex, kil and branches ask. A count has eight bits, and is 0 for a kind that may not be
+// named there.
 #[derive(Clone, Copy)]
 pub struct Usable {
     pub profile: Profile,

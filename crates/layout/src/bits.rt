@@ -6,7 +6,7 @@ ghost use Rattle.layout.specs.Layout.{value_at, destination_bits, operand_bits, 
 use crate::opcodes::OperandShape;
 
 // Where a value stands in its field: its first bit and how many bits it has.
-// No ghost field bounds the two: whoever builds one would be asked for more than the format asks.
+// No ghost field bounds the two: whoever builds one would be asked for more than before.
 #[derive(Clone, Copy)]
 pub struct Bits {
     pub first: u32,

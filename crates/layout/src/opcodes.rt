@@ -1,4 +1,5 @@
-// The opcodes, what a token of each holds, and what else a rule says of some of them. Every set of opcodes stands here and in `selection`.
+// The opcodes, what a token of each holds, and what else a rule says of some of them. Every set of opcodes stands here and in `selection`, four
+// of them also as a `matches!` under a public name.
 ghost use Rattle.std.specs.Prelude.{◌≡◌};
 ghost use Rattle.layout.specs.Opcodes.{shape_of, is_added, is_fragment_only, is_three_wide, is_matrix, is_opener, flow_of};
 ghost use Rattle.layout.specs.computed.Groups.{source_shape, second_shape, is_branch};
@@ -69,8 +70,8 @@ const WITH_SOURCE1: u64 = 0x3780_FFFF_FFFF;
 
 const WITH_SOURCE2: u64 = 0x3600_F38E_08DE;
 
-// ddx to eif, and ife to ifl. `is_added` and three like it ask by match, each under its public name; as sets
-// these serve `ordinary` and `selection`.
+// ddx to eif, and ife to ifl. `is_added` and three like it ask by match, each under its public name; as sets these serve `ordinary` and
+// `selection`.
 const ADDED: u64 = (1 << (EIF + 1)) - (1 << DDX);
 
 pub(crate) const OPENERS: u64 = (1 << (IFL + 1)) - (1 << IFE);

@@ -8,7 +8,7 @@ ghost use Rattle.layout.specs.Swizzles.{bit_of, selector, components_of, selecto
 pub const XYZW: u8 = 0xe4;
 
 // Whether a mask has a component: bit 0 is x, bit 3 is w. `opcodes::among` asks the same of 64 bits: by it the mask and the
-// component would be widened first, for one line less.
+// component would be widened first, for no line less.
 pub fn mask_has(mask: u8, component: u8) -> bool
     ensures { result ≡ bit_of mask component }
 {

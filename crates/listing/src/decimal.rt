@@ -27,7 +27,7 @@ impl Writer<'_> {
         requires unit { 1 ≤ unit }
         ensures { Writes (digit_at n unit) 1 self.old self.new }
     {
-        self.when(unit <= n, 48 + (n / unit % 10) as u8);
+        self.when(unit <= n, b'0' + (n / unit % 10) as u8);
     }
 
     // Any number of at most `most` digits: those of its tenth, then the last one. Only a token's number in a refusal may be so large.
@@ -39,10 +39,10 @@ impl Writer<'_> {
         ensures { Writes (decimal n) most self.old self.new }
     {
         if n < 10 {
-            return self.byte(48 + n as u8);
+            return self.byte(b'0' + n as u8);
         }
         self.long(n / 10, most - 1);
-        self.byte(48 + (n % 10) as u8);
+        self.byte(b'0' + (n % 10) as u8);
     }
 
     #[inline(always)]

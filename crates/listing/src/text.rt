@@ -1,6 +1,6 @@
 // A text that grows in a lent buffer. It is a buffer and a place, since nothing is allocated. Items are written by these methods and not by `write!`:
 // what is printed by that is promised only where it answers Ok, and with no bound on its length. Each method asks for as many bytes as its item has
-// at most, which is another number in each.
+// at most.
 ghost use Rattle.std.specs.Prelude.{◌≡◌, [], ◌∷◌, ◌+◌, ◌≤◌, length};
 ghost use Rattle.listing.specs.Text.{when};
 ghost use Rattle.listing.specs.computed.Writers.{Appends, RoomFor, Writes};

@@ -13,6 +13,7 @@ use layout::opcodes::Flow;
 use layout::record::Token;
 
 // A line for each token, none of which has more than 128 bytes. This and the next are no methods of `Lines`, which is taken apart by their loops.
+// The place is handed in and back, since the first line stands before, and each line's is measured alone.
 pub(crate) fn put_tokens(out: &mut [u8], at: usize, stage: u8, bytes: &[u8]) -> usize
     requires listed { Listed stage bytes.now }
     requires has_room { HasRoom (all_lines stage bytes.now) (128 * token_count bytes.now) at (length out.old) }
@@ -102,6 +103,7 @@ impl<'a> Iterator for Lines<'a> {
 }
 
 // A record, and the stage and the depth in which it has a line.
+// The stage is the number that the check answered and that `listing::line` takes.
 #[derive(Clone, Copy)]
 struct Line {
     token: Token,

@@ -53,10 +53,10 @@ fn check_tokens(edition: u32, bytes: &[u8]) -> Result<Program, Refusal>
     last_state(usable, bytes, count).finish(stage, count)
 }
 
-// The state after so many tokens, or after the first of them that has a fault: a run of tokens at a glance, then one token by itself, until
-// there is none left. The tokens are counted by hand, since a run takes any number of them. The branch that a known opener puts away and a
-// known eif takes up again is stored and read here, in its place: a method that took the array would copy it. For the same reason a refused
-// state is handed back before it is assigned.
+// The state after so many tokens, or after the first of them that has a fault: a run of tokens at a glance, then one token by itself, until there
+// is none left. The tokens are counted by hand, since a run takes any number of them, and how many there are is worked out once. The branch that
+// a known opener puts away and a known eif takes up again is stored and read here, in its place: a method that took the array would copy it. For
+// the same reason a refused state is handed back before it is assigned.
 fn last_state(usable: Usable, bytes: &[u8], count: usize) -> State
     requires { CanJudge usable bytes.now count }
     ensures { result ≡ steps_over usable.profile bytes.now start_state 0 count }

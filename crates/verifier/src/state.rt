@@ -53,8 +53,7 @@ impl State {
         (self.depth % 16 + 15) % 16
     }
 
-    // Where the branch around it stands: one place further back. A number for how far back would have to be bounded, here
-    // and in the definition.
+    // Where the branch around it stands: one place further back. A number for how far back would have to be bounded, here and in the definition.
     pub(crate) fn slot_around(&self) -> usize
         ensures { (result ≡ slot_around self.now.depth) × (result < 16) }
     {
