@@ -1,5 +1,5 @@
 // Bytes written in hexadecimal.
-ghost use Rattle.std.specs.Prelude.{◌<◌, IfSome};
+ghost use Rattle.std.specs.Prelude.{◌<◌, ◌≤◌, vec_len, IfSome};
 
 use crate::cases::ROOM;
 use std::alloc::AllocError;
@@ -20,7 +20,9 @@ fn pair(high: u8, low: u8) -> Option<u8> {
 }
 
 // Reads pairs of digits, as many as there is room for, and passes over everything else.
-pub fn read(text: &[u8], bytes: &mut Vec<u8>) -> Result<(), AllocError> {
+pub fn read(text: &[u8], bytes: &mut Vec<u8>) -> Result<(), AllocError>
+    ensures { vec_len bytes.new ≤ 65536 }
+{
     bytes.clear();
     let mut left = text;
     while let [high, low, after @ ..] = left {
