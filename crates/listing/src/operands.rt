@@ -12,9 +12,8 @@ impl Writer<'_> {
         requires { RoomFor 13 self.old }
         ensures { Writes (destination_text (stage_number stage) destination) 13 self.old self.new }
     {
-        match destination {
-            None => {}
-            Some(register) => self.masked(stage, register),
+        if let Some(register) = destination {
+            self.masked(stage, register);
         }
     }
 

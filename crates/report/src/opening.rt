@@ -69,7 +69,7 @@ fn is_edition(digit: u8) -> bool
     matches!(digit, b'1'..=b'3')
 }
 
-// The edition that a digit names. Whether it names one is asked first, by itself, as `text_of` asks it.
+// The edition that a digit names. Whether it names one is asked first, as `text_of` asks it: an Option of both would be taken apart at once.
 fn edition_of(digit: u8) -> u16
     requires { (49 ≤ digit) × (digit ≤ 51) }
     ensures { result ≡ edition_of digit }
