@@ -52,7 +52,8 @@ impl Answer {
         Answer::refused(bytecode::refusal(number, place, part), place)
     }
 
-    // The answer to what `deliver` returned for the token at a place: the next place as the value, or the fault, at that place.
+    // The answer to what `deliver` returned, a number for the reason there, for the token at a place: the next place as the value, or the fault,
+    // at that place.
     pub(crate) fn delivered(code: u32, place: usize, next: usize) -> Answer
         ensures { result ≡ code_answer code place next }
     {

@@ -47,6 +47,7 @@ fn long_at(bytes: &[u8], at: usize) -> u64
     u64::from(word_at(bytes, at)) + (u64::from(word_at(bytes, at + 4)) << 32)
 }
 
+// A slice and a place, as its definition has it.
 fn word_at(bytes: &[u8], at: usize) -> u32
     requires { at + 4 ≤ length bytes.now }
     ensures { result ≡ word_at bytes.now at }

@@ -134,8 +134,8 @@ impl Written {
         (source.kind == 2) & self.lacks(source.number, 1, components)
     }
 
-    // Whether a direct source is a temporary register and one of the rows from it lacks a component, read or not. If none does, which
-    // components are read need not be asked.
+    // The rows are the opcode's and the field is the token's, so they are handed in side by side. Whether a direct source is a temporary register
+    // and one of the rows from it lacks a component, read or not. If none does, which components are read need not be asked.
     #[tactic(auto, unfolding(crate::specs::computed::Access::lacks_some))]
     pub(crate) fn lacks_some(self, rows: u8, field: u64) -> bool
         ensures { result ≡ lacks_some self rows (direct_of field) }

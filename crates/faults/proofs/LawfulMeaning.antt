@@ -17,7 +17,7 @@ use Rattle.components.specs.declared.written.Written.{Written}
 use Rattle.registers.specs.Counts.{count_of}
 use Rattle.faults.specs.computed.Faults.{refusal_at}
 use Rattle.faults.specs.Lawful.{Lawful}
-use Rattle.faults.specs.computed.LawfulTests.{is_lawful, is_lawful_matrix, is_lawful_tex, is_lawful_kil, is_lawful_indexed, is_lawful_branch, is_lawful_either, is_rightly_indexed, usable_of, usable_beside, LawfulWith, LawfulUnder}
+use Rattle.faults.specs.computed.LawfulTests.{is_lawful, is_lawful_matrix, is_lawful_tex, is_lawful_kil, is_lawful_indexed, is_lawful_branch, is_lawful_either, is_rightly_indexed, usable_beside, LawfulWith, LawfulUnder}
 use Rattle.bytecode.specs.Fields.{record_of}
 use Rattle.faults.specs.computed.Profile.{profile_of}
 use Rattle.faults.specs.declared.lawful.Usable.{Usable}
@@ -59,12 +59,6 @@ told_beside : (test : Usable → Bool) (f : Fields) {branch used : Bool} {Enough
 unfolding LawfulWith
 told_beside test f alike law usable e edition stage of =
     none_broken edition stage f (law edition stage (ap test (sym of) ∙ alike usable (profile_of edition stage) ∙ e))
-
--- where it holds beside every profile, it holds under its own
-pub under_its_own : (u : Usable) (f : Fields) → LawfulWith u f → LawfulUnder u f
-unfolding LawfulWith LawfulUnder usable_of
-under_its_own u f lawful edition stage of =
-    lawful edition stage (ap (λ v. usable_beside v (profile_of edition stage)) of)
 
 module _ (u : Usable) (f : Fields) where
   pub means_lawful : is_lawful u f ≡ true → LawfulWith u f

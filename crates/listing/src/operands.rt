@@ -30,6 +30,7 @@ impl Writer<'_> {
         }
     }
 
+    // This and the next, and `sampler`, are three lines each, on records of their own: a trait for them would be longer.
     #[inline(always)]
     fn masked(&mut self, stage: Stage, r: MaskedRegister)
         requires { RoomFor 13 self.old }

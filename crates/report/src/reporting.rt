@@ -60,6 +60,7 @@ fn first_length(first: FirstLine) -> usize
     put_first(&mut line, first)
 }
 
+// That there is room is asked of each text by itself, since each has its own length.
 fn put_first(out: &mut [u8], first: FirstLine) -> usize
     requires { HasRoom (first_line first) (first_most first) 0 (length out.old) }
     ensures { Puts (first_line first) (first_most first) 0 out.old out.new result }

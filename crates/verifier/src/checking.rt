@@ -15,7 +15,7 @@ use faults::profile::Profile;
 use layout::opcodes;
 use layout::opcodes::Flow;
 
-// Judges a program under an edition, in one pass over its tokens.
+// Judges a program under an edition, in one pass over its tokens. The two are what document 01 hands in, and go side by side.
 pub fn check(edition: u32, bytes: &[u8]) -> Result<Program, Refusal>
     ensures { Checks edition bytes.now result }
 {

@@ -19,8 +19,8 @@ pub struct Run {
     pub token: usize,
 }
 
-// Passes tokens that are no branches, one after the other, as long as each is known to have no fault. They leave branches alone, so the set
-// at hand is all of the state that they touch.
+// From one token on, up to so many as there are, which is worked out once. Passes tokens that are no branches, one after the other, as long as
+// each is known to have no fault. They leave branches alone, so the set at hand is all of the state that they touch.
 pub(crate) fn pass_tokens(
     usable: Usable,
     from: Written,
