@@ -1,4 +1,4 @@
-// The opcodes, what a token of each holds, and what else a rule says of some of them. Every set of opcodes stands here and in `selection`, four
+// The opcodes, what a token of each holds, and what else a rule says of some of them. Every set of opcodes stands here and in `selection`, two
 // of them also as a `matches!` under a public name.
 ghost use Rattle.std.specs.Prelude.{◌≡◌};
 ghost use Rattle.layout.specs.Opcodes.{shape_of, is_added, is_fragment_only, is_three_wide, is_matrix, is_opener, flow_of};
@@ -70,8 +70,7 @@ const WITH_SOURCE1: u64 = 0x3780_FFFF_FFFF;
 
 const WITH_SOURCE2: u64 = 0x3600_F38E_08DE;
 
-// ddx to eif, and ife to ifl. `is_added` and three like it ask by match, each under its public name; as sets these serve `ordinary` and
-// `selection`.
+// ddx to eif, and ife to ifl.
 const ADDED: u64 = (1 << (EIF + 1)) - (1 << DDX);
 
 pub(crate) const OPENERS: u64 = (1 << (IFL + 1)) - (1 << IFE);
@@ -173,18 +172,19 @@ pub fn ordinary(edition: u32) -> u64
     }
 }
 
-// Whether edition 1 does not have an opcode.
+// Whether edition 1 does not have an opcode. This and the next ask the set, so that each bit of it is held to the paper's list: `ordinary` needs
+// those alone that have a destination.
 pub fn is_added(opcode: u32) -> bool
     ensures { result ≡ is_added opcode }
 {
-    matches!(opcode, DDX..=EIF)
+    among(ADDED, opcode)
 }
 
 // Whether only fragment programs have it.
 pub fn is_fragment_only(opcode: u32) -> bool
     ensures { result ≡ is_fragment_only opcode }
 {
-    matches!(opcode, KIL | TEX)
+    among(FRAGMENT_ONLY, opcode)
 }
 
 // Whether its result has no fourth component. As a `matches!` the check takes 6 instructions a token more: it asks this of each destination.
