@@ -60,7 +60,7 @@ impl Profile {
     pub(crate) fn sampler_wrong(self, s: Sampler) -> bool
         ensures { result ≡ sampler_wrong (count_in self) s }
     {
-        self.count_of(5) <= s.number || layout::settings_wrong(s)
+        (self.count_of(5) <= s.number) | layout::settings_wrong(s)
     }
 }
 

@@ -1,6 +1,6 @@
 // The first of faults 9 to 19 of one token.
 ghost use Rattle.std.specs.Prelude.{ℕ, Bool, ◌≡◌, cond};
-ghost use Rattle.layout.specs.Records.{token_of};
+ghost use Rattle.layout.specs.Records.{operand_of, token_of};
 ghost use Rattle.bytecode.specs.Decode.{outcome};
 ghost use Rattle.faults.specs.computed.Profile.{count_in};
 ghost use Rattle.faults.specs.Order.{first_fault, source_rules};
@@ -10,7 +10,7 @@ use crate::profile::Profile;
 use crate::rules;
 use bytecode::answers::Refusal;
 use layout::fields::RawToken;
-use layout::record::Operand;
+use layout::opcodes::OperandShape;
 use layout::selection;
 
 // The token's number is handed in, since `own_fault` and `undecoded_fault` promise the whole refusal.
@@ -65,18 +65,18 @@ impl Profile {
         if rules::mask_wrong(f.opcode, destination) {
             return Err(bytecode::refusal(15, token, 1));
         }
-        let source1 = layout::unpack_operand(shape.source1, f.source1);
         self.operand_fault(
             1,
-            source1,
+            shape.source1,
+            f.source1,
             |swizzle| rules::selectors_differ(f.opcode, swizzle),
         )
         .map_err(|number| bytecode::refusal(number, token, 2))?;
-        let source2 = layout::unpack_operand(shape.source2, f.source2);
         let rows = selection::rows2(f.opcode);
         self.operand_fault(
             rows,
-            source2,
+            shape.source2,
+            f.source2,
             |swizzle| rules::matrix_swizzled(f.opcode, swizzle),
         )
         .map_err(|number| bytecode::refusal(number, token, 3))
@@ -86,23 +86,26 @@ impl Profile {
     fn operand_fault<F: Fn(u8) -> bool>(
         self,
         rows: u8,
-        operand: Operand,
+        shape: OperandShape,
+        field: u64,
         swizzled: F,
     ) -> Result<(), u8>
         requires { F.IsAlwaysCallable swizzled }
-        ensures { (test : ℕ → Bool) → ((z : ℕ) (b : Bool) → F.post swizzled z b → b ≡ test z) → result ≡ number_of (first_fault (source_rules (count_in self) self.stage rows test 0 operand)) }
+        ensures { (test : ℕ → Bool) → ((z : ℕ) (b : Bool) → F.post swizzled z b → b ≡ test z) → result ≡ number_of (first_fault (source_rules (count_in self) self.stage rows test 0 (operand_of shape field))) }
     {
-        match operand {
-            Operand::Unused => Ok(()),
-            Operand::Direct(s) => {
+        match shape {
+            OperandShape::Unused => Ok(()),
+            OperandShape::Source => {
+                if layout::is_indexed(field) {
+                    let s = layout::unpack_indexed(field);
+                    rule(self.indexed_wrong(rows, s), 16)?;
+                    return rule(swizzled(s.swizzle), 18);
+                }
+                let s = layout::unpack_direct(field);
                 rule(self.direct_wrong(rows, s), 17)?;
                 rule(swizzled(s.swizzle), 18)
             }
-            Operand::Indexed(s) => {
-                rule(self.indexed_wrong(rows, s), 16)?;
-                rule(swizzled(s.swizzle), 18)
-            }
-            Operand::Sampler(s) => rule(self.sampler_wrong(s), 19),
+            OperandShape::Sampler => rule(self.sampler_wrong(layout::unpack_sampler(field)), 19),
         }
     }
 }
