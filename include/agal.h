@@ -34,7 +34,7 @@ extern "C" {
 #define AGAL_REPORT_MAX 262178  /* room for any text of agal_report */
 
 /*
- * Stack that a thread needs to have left, in bytes. Measured: 3,336 for agal_check, 3,720 for agal_report, 728 for the others; and up to
+ * Stack that a thread needs to have left, in bytes. Measured: 2,536 for agal_check, 2,952 for agal_report, 824 for the others; and up to
  * some 3,200 more in a program's first call, where the loader looks up memcpy and the like only then.
  */
 #define AGAL_CHECK_STACK 8192

@@ -3,7 +3,7 @@
 // every state and every number. Only what is known at a glance is stored by the check's loop itself: the set at hand after a run, and the
 // branch that an opener puts away.
 ghost use Rattle.std.specs.Prelude.{cond, ◌≡◌, ◌<◌};
-ghost use Rattle.verifier.specs.computed.State.{slot_of, slot_around, is_misplaced, set_met, with_fault, exchanged_state, closed_state, joined_state, met_state, entered_state, opened_state, parted_state, written_by, wrote_state};
+ghost use Rattle.verifier.specs.computed.State.{slot_of, slot_around, is_misplaced, set_met, with_fault, exchanged_state, closed_state, joined_state, entered_state, opened_state, written_by, wrote_state};
 
 use bytecode::answers::Refusal;
 use components::written::Written;
@@ -91,17 +91,6 @@ impl State {
         self
     }
 
-    // As a token is met: els exchanges the set at hand and the kept one, eif joins them and closes the branch.
-    pub(crate) fn met(self, flow: Flow) -> State
-        ensures { result ≡ met_state self flow }
-    {
-        match flow {
-            Flow::Plain | Flow::Opener => self,
-            Flow::Els => self.exchanged(),
-            Flow::Eif => self.joined(),
-        }
-    }
-
     // els: the set of the first block is kept, and what was written before the branch is at hand.
     pub(crate) fn exchanged(mut self) -> State
         ensures { result ≡ exchanged_state self }
@@ -135,16 +124,6 @@ impl State {
         };
         self.depth = self.slot();
         self
-    }
-
-    // After a token: an opener keeps the set at hand for the other side.
-    pub(crate) fn parted(self, flow: Flow, token: u16) -> State
-        ensures { result ≡ parted_state self flow token }
-    {
-        match flow {
-            Flow::Opener => self.opened(token),
-            Flow::Plain | Flow::Els | Flow::Eif => self,
-        }
     }
 
     // An opener: the branch that was innermost is put away.

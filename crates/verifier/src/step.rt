@@ -9,6 +9,7 @@ use components::access::Source;
 use faults::profile::Profile;
 use layout::fields::{Fields, RawToken};
 use layout::opcodes;
+use layout::opcodes::Flow;
 
 impl State {
     // Judges one token, whose number is `token`, by its fields. A state that has a fault stays as it is: the first fault counts.
@@ -23,10 +24,14 @@ impl State {
         match self.fault_of(profile, token, raw) {
             Err(fault) => self.refused(fault),
             Ok(()) => {
-                let flow = opcodes::flow_of(f.opcode);
-                self.met(flow)
-                    .wrote(layout::unpack_destination(raw.shape.destination, f.destination))
-                    .parted(flow, token)
+                // The flow is asked once: with a match before the write and another after it the array of branches is copied more often.
+                let destination = layout::unpack_destination(raw.shape.destination, f.destination);
+                match opcodes::flow_of(f.opcode) {
+                    Flow::Plain => self.wrote(destination),
+                    Flow::Opener => self.wrote(destination).opened(token),
+                    Flow::Els => self.exchanged().wrote(destination),
+                    Flow::Eif => self.joined().wrote(destination),
+                }
             }
         }
     }
