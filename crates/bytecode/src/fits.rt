@@ -6,7 +6,8 @@ use layout::opcodes;
 use layout::opcodes::OperandShape;
 use layout::record::{DirectSource, MaskedRegister, Operand, Sampler, Token};
 
-// Whether encode, given room, writes a record.
+// Whether encode, given room, writes a record. Compiled into encode, so that the record goes through no memory.
+#[inline(always)]
 #[tactic(auto, unfolding(crate::specs::Encode::is_encodable))]
 pub fn encodable(token: Token) -> bool
     ensures { result ≡ is_encodable token }
