@@ -1,5 +1,5 @@
-// The opcodes, what a token of each holds, and what else a rule says of some of them. Every set of opcodes stands here and in `selection`, two
-// of them also as a `matches!` under a public name.
+// The opcodes, what a token of each holds, and what else a rule says of some of them. Every set of opcodes stands here and in `selection`,
+// and what a rule asks of an opcode asks its set: with a `matches!` beside a set, bits of it that nothing else needs are held to no list.
 ghost use Rattle.std.specs.Prelude.{◌≡◌};
 ghost use Rattle.layout.specs.Opcodes.{shape_of, is_added, is_fragment_only, is_three_wide, is_matrix, is_opener, flow_of};
 ghost use Rattle.layout.specs.computed.Groups.{source_shape, second_shape, is_branch};
@@ -151,7 +151,7 @@ pub fn flow_of(opcode: u32) -> Flow
 pub fn is_opener(opcode: u32) -> bool
     ensures { result ≡ is_opener opcode }
 {
-    matches!(opcode, IFE..=IFL)
+    among(OPENERS, opcode)
 }
 
 // Whether it is an opener, els or eif: they stand one after another.
@@ -172,8 +172,7 @@ pub fn ordinary(edition: u32) -> u64
     }
 }
 
-// Whether edition 1 does not have an opcode. This and the next ask the set, so that each bit of it is held to the paper's list: `ordinary` needs
-// those alone that have a destination.
+// Whether edition 1 does not have an opcode.
 pub fn is_added(opcode: u32) -> bool
     ensures { result ≡ is_added opcode }
 {
@@ -197,5 +196,5 @@ pub fn is_three_wide(opcode: u32) -> bool
 pub fn is_matrix(opcode: u32) -> bool
     ensures { result ≡ is_matrix opcode }
 {
-    matches!(opcode, M33 | M44 | M34)
+    among(MATRICES, opcode)
 }
