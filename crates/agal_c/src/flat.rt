@@ -139,7 +139,7 @@ pub(crate) fn is_flat(flat: &[u8]) -> bool
     (flat[4] <= 1) & (flat[9] <= 3) & (flat[19] <= 3)
 }
 
-// Compiled into its callers, as `encodable` is: the record then goes through no memory, and an encode takes a fifth less time.
+// Compiled into its callers, as `encodable` is, so that the record is not laid out in memory.
 #[inline(always)]
 pub(crate) fn token_of(flat: &[u8]) -> Token
     requires { 29 ≤ length flat.now }

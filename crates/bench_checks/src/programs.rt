@@ -31,7 +31,7 @@ pub fn repeated<W: Write>(out: &mut W, bytes: &mut Vec<u8>) -> io::Result<()> {
     checked(out, &bytes[2..])
 }
 
-// The token is copied out and appended whole: `extend_from_within` appends byte by byte, which takes four times as long.
+// The token is copied out and appended whole: `extend_from_within` appends byte by byte.
 fn repeat_last(bytes: &mut Vec<u8>, times: u16) -> Result<(), AllocError>
     requires { 24 ≤ vec_len bytes.old }
     ensures { vec_len bytes.old ≤ vec_len bytes.new }
